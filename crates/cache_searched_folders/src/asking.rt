@@ -9,7 +9,7 @@ use base_files::{FileTime, Listed, OsBytes};
 use base_formats::{put_framed, read_framed};
 use cache_dir::{Kind, digest_of, state_of};
 use cache_host::{CommandLine, Host, LETTERS, Said, messages_of, push_words};
-use cache_known_options::{PlacedWords, behind_front, is_read, names_specs};
+use cache_known_options::{PlacedWords, behind_front, is_among, is_read, names_specs};
 use cache_watch_lists::{Unwatched, holds};
 use std::alloc::{AllocError, Global};
 use std::io::Read;
@@ -19,7 +19,7 @@ use std::rt::Files;
 const FRONTS: [&str; 6] = ["-D", "-U", "-o", "-M", "-include", "-imacros"];
 
 /// Words that are used alone and say what is to be made.
-const STEPS: [&[u8]; 4] = [b"-c", b"-S", b"-E", b"-v"];
+const STEPS: [&str; 4] = ["-c", "-S", "-E", "-v"];
 
 /// The version of the layout of what is kept, which counts in its name.
 const VERSION: &[u8] = b"2";
@@ -28,7 +28,7 @@ const VERSION: &[u8] = b"2";
 fn says_where(word: &[u8]) -> bool {
     word.starts_with(b"-")
         && behind_front(&FRONTS, word).is_none()
-        && !STEPS.contains(&word)
+        && !is_among(&STEPS, word)
         && !word.starts_with(b"-Wp,")
 }
 

@@ -1,5 +1,6 @@
 //! Which files a text takes in, by its markers. A `#line` directive makes a marker too, of a file that the preprocessor didn't read.
 
+use memchr::memrchr;
 use std::alloc::{AllocError, Global};
 use std::collections::HashSet;
 
@@ -33,7 +34,7 @@ fn quoted_in(number: &[u8]) -> Option<&[u8]> {
 /// What a line says, where it is a marker by which a file begins or goes on.
 pub(crate) fn step_in(line: &[u8]) -> Option<Step<'_>> {
     let quoted = quoted_in(line.strip_prefix(b"# ")?)?;
-    let end = quoted.iter().rposition(|byte| *byte == b'"')?;
+    let end = memrchr(b'"', quoted)?;
     let (name, flags) = quoted.split_at_checked(end)?;
     match flags {
         [b'"', b' ', b'1', ..] => Some(Step::Enters(name)),

@@ -95,7 +95,7 @@ fn may_be_compilers(name: &[u8]) -> bool {
 fn definition_in(placed: Placed<'_>) -> Option<&[u8]> {
     let word = placed.word.as_bytes();
     match placed.option {
-        Some(option) if option.as_bytes() == b"-D".as_slice() => Some(word),
+        Some(option) if matches!(option.as_bytes(), b"-D") => Some(word),
         Some(_) => None,
         None => word.strip_prefix(b"-D"),
     }
@@ -234,7 +234,10 @@ fn add_made<'a>(
 ) -> Result<bool, Unwatched> {
     let probes = probes_in(alloc, all)?;
     let mut are_clear = true;
-    for (source, found) in sources.iter().zip(all.iter_mut()) {
+    for (number, source) in sources.iter().enumerate() {
+        let Some(found) = all.get_mut(number) else {
+            break;
+        };
         add_all_probed(source, probes.as_slice(), found)?;
         are_clear = are_clear
             && !has_unclear(alloc, words, sources, found)?
@@ -350,7 +353,10 @@ fn take_sources<'a>(
     all: &[Directives<'_>],
     watching: &mut Watching<'_, 'a>,
 ) -> Result<(), Unwatched> {
-    for (source, found) in sources.iter().zip(all.iter()) {
+    for (number, source) in sources.iter().enumerate() {
+        let Some(found) = all.get(number) else {
+            break;
+        };
         watching.take_named(alloc, source.path, source.contents, found.is_once)?;
     }
     Ok(())
@@ -377,11 +383,12 @@ fn search_sources<'a, R: Files + AllocGlobal>(
     bracketed: &mut HashSet<&'a [u8]>,
     watching: &mut Watching<'_, '_>,
 ) -> Result<(), Unwatched> {
-    let mut is_input = true;
-    for (source, found) in sources.iter().zip(all.iter()) {
+    for (number, source) in sources.iter().enumerate() {
+        let Some(found) = all.get(number) else {
+            break;
+        };
         let asked = found.asked.as_slice();
-        search_all(rt, source, places, asked, is_input, bracketed, watching)?;
-        is_input = false;
+        search_all(rt, source, places, asked, number == 0, bracketed, watching)?;
     }
     Ok(())
 }

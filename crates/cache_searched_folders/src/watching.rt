@@ -37,6 +37,11 @@ pub struct Watching<'d, 'a> {
     once: HashSet<&'a [u8]>,
 }
 
+/// Whether it is certain that nothing lies under a path.
+fn has_nothing<R: Files>(rt: &R, path: &str) -> bool {
+    matches!(found_at(rt, path), Some(Found::Nothing))
+}
+
 impl<'d, 'a> Watching<'d, 'a> {
     /// Nothing was looked at for a call in that folder.
     pub fn new(alloc: Global, dir: &'d [u8], before: FileTime) -> Watching<'d, 'a> {
@@ -91,7 +96,7 @@ impl<'d, 'a> Watching<'d, 'a> {
                 Some(self.folders.len().saturating_sub(1))
             }
             Ok(_) => None,
-            Err(error) if is_nothing(&error) && found_at(rt, path) == Some(Found::Nothing) => None,
+            Err(error) if is_nothing(&error) && has_nothing(rt, path) => None,
             Err(_) => return Err(Unwatched::Path),
         };
         self.numbers
@@ -422,7 +427,7 @@ impl<'d, 'a> Watching<'d, 'a> {
         list: &SearchList<'_>,
     ) -> Result<(), Unwatched> {
         for installation in list.installations.as_slice() {
-            for folder in [above(installation), above(above(installation))] {
+            for folder in [above(installation), above(above(installation))].iter() {
                 let state = State::at(rt, folder)?;
                 let digest = digest_at(rt, folder)?;
                 self.files
