@@ -46,14 +46,17 @@ const OF_COLUMNS: [&str; 2] = ["__builtin_COLUMN", "source_location"];
 
 /// Whether the word begins with one of these.
 fn begins_with(word: &[u8], fronts: &[&str]) -> bool {
-    fronts
-        .iter()
-        .any(|front| word.starts_with(front.as_bytes()))
+    for front in fronts {
+        if word.starts_with(front.as_bytes()) {
+            return true;
+        }
+    }
+    false
 }
 
 /// Whether a word asks for debug information.
 fn is_debug(word: &[u8]) -> bool {
-    word.starts_with(b"-g") && word != b"-g0".as_slice()
+    word.starts_with(b"-g") && !matches!(word, b"-g0")
 }
 
 /// What one word asks for. The debug information of Clang has a digest of each file.
@@ -73,6 +76,16 @@ fn asked_by_word(kind: CCompilerKind, word: &[u8]) -> Asked {
     Asked::Nothing
 }
 
+/// Whether a text asks for a column.
+fn asks_for_column(text: &[u8]) -> bool {
+    for word in &OF_COLUMNS {
+        if memmem::find(text, word.as_bytes()).is_some() {
+            return true;
+        }
+    }
+    false
+}
+
 impl Asked {
     /// The one of the two that asks for more.
     fn and(self, other: Asked) -> Asked {
@@ -89,13 +102,9 @@ impl Asked {
         for word in words {
             asked = asked.and(asked_by_word(kind, word.as_bytes()));
         }
-        if asked == Asked::Nothing
-            && OF_COLUMNS
-                .iter()
-                .any(|word| memmem::find(text, word.as_bytes()).is_some())
-        {
-            return Asked::Lines;
+        match asked {
+            Asked::Nothing if asks_for_column(text) => Asked::Lines,
+            _ => asked,
         }
-        asked
     }
 }

@@ -11,9 +11,19 @@ use ckeys_marker_walk::{Mark, Markers};
 use memchr::memchr_iter;
 use std::alloc::{AllocError, Global};
 
+/// The digits that a text begins with.
+fn digits_ahead(text: &[u8]) -> &[u8] {
+    for (at, byte) in text.iter().enumerate() {
+        if !byte.is_ascii_digit() {
+            return text.get(..at).unwrap_or(text);
+        }
+    }
+    text
+}
+
 /// The name of the marker that a line is, if it is one, with its number.
 fn marker_in(line: &[u8]) -> Option<(&[u8], usize)> {
-    let Some((b'#', behind)) = line.split_first() else {
+    let [b'#', behind @ ..] = line else {
         return None;
     };
     let Some(Mark::Named(name)) = Markers::new(line).next() else {
@@ -21,11 +31,7 @@ fn marker_in(line: &[u8]) -> Option<(&[u8], usize)> {
     };
     let digits = behind.strip_prefix(b"line").unwrap_or(behind);
     let digits = digits.strip_prefix(b" ").unwrap_or(digits);
-    let count = digits
-        .iter()
-        .take_while(|byte| byte.is_ascii_digit())
-        .count();
-    let digits = str::from_utf8(digits.get(..count)?).ok()?;
+    let digits = str::from_utf8(digits_ahead(digits)).ok()?;
     Some((name, digits.parse::<usize>().ok()?))
 }
 

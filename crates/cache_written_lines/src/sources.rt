@@ -34,10 +34,10 @@ impl<'a> Source<'a> {
         for end in memchr_iter(b'\n', self.contents) {
             self.begins.push(end.saturating_add(1))?;
         }
-        match self.contents.last() {
-            None | Some(b'\n') => Ok(()),
+        match self.contents {
+            [] | [.., b'\n'] => Ok(()),
             // The last line has no end of its own.
-            Some(_) => Ok(self.begins.push(self.contents.len().saturating_add(1))?),
+            _ => Ok(self.begins.push(self.contents.len().saturating_add(1))?),
         }
     }
 

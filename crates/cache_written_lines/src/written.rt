@@ -79,16 +79,28 @@ fn up_to(bytes: &[u8], count: usize) -> &[u8] {
 
 /// How many bytes two lines begin with alike.
 fn alike_ahead(one: &[u8], other: &[u8]) -> usize {
-    one.iter()
-        .zip(other.iter())
-        .take_while(|pair| pair.0 == pair.1)
-        .count()
+    for (at, byte) in one.iter().enumerate() {
+        match other.get(at) {
+            Some(there) if *there == *byte => {}
+            _ => return at,
+        }
+    }
+    one.len()
 }
 
 /// How many bytes two lines end with alike.
 fn alike_behind(one: &[u8], other: &[u8]) -> usize {
-    let pairs = one.iter().rev().zip(other.iter().rev());
-    pairs.take_while(|pair| pair.0 == pair.1).count()
+    let (mut front, mut other_front) = (one, other);
+    for alike in 0..one.len() {
+        match (front, other_front) {
+            ([rest @ .., last], [other_rest @ .., other_last]) if *last == *other_last => {
+                front = rest;
+                other_front = other_rest;
+            }
+            _ => return alike,
+        }
+    }
+    one.len()
 }
 
 /// Puts a number, most often a small one: in one byte, or in eight after a 255.
@@ -138,7 +150,7 @@ impl Written {
     /// Puts the length of bytes, then the bytes.
     fn put(&mut self, bytes: &[u8]) -> Result<(), AllocError> {
         put_small(&mut self.bytes, bytes.len() as u64)?;
-        Ok(self.bytes.extend_from_slice(bytes)?)
+        self.bytes.extend_from_slice(bytes)
     }
 
     /// Takes lines that the text doesn't show.
