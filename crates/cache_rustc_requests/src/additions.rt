@@ -1,12 +1,13 @@
 //! What is bound to the key of a call beside what the session hashes of it.
 
 use crate::parts::{archives_in, has_loaded};
+use crate::words::begins_with;
 use base_files::{Files as CallFiles, Listed, OsBytes, join};
 use base_snapshots::SnapshotFiles;
 use cache_dir::digest_of;
 use cache_disk::read_whole;
 use cache_host::{Additions, CommandLine, HostError, into_text};
-use memchr::memmem;
+use memchr::{memchr, memmem};
 use std::alloc::Global;
 use std::rt::Files;
 
@@ -80,10 +81,7 @@ fn add_processor<R: Files + AllocGlobal>(
         if line.is_empty() {
             break;
         }
-        if OF_PROCESSOR
-            .iter()
-            .any(|front| line.starts_with(front.as_bytes()))
-        {
+        if begins_with(&OF_PROCESSOR, line) {
             additions.add(rt.alloc(), "processor", line)?;
         }
     }
@@ -92,7 +90,7 @@ fn add_processor<R: Files + AllocGlobal>(
 
 /// A crate that a word names: what comes before its path, and that path as it is written, where there is one.
 fn crate_in(value: &[u8]) -> (&[u8], Option<&[u8]>) {
-    match value.iter().position(|byte| *byte == b'=') {
+    match memchr(b'=', value) {
         Some(at) => {
             let (name, rest) = value.split_at_checked(at).unwrap_or((value, &[]));
             (name, rest.get(1..))
@@ -141,6 +139,16 @@ fn add_libraries<R: Files + AllocGlobal>(
     Ok(())
 }
 
+/// Whether a word names a crate that lies in the folder of rustc's own toolchain.
+fn is_own_crate(name: &[u8]) -> bool {
+    for own in &OWN_CRATES {
+        if name.ends_with(own.as_bytes()) {
+            return true;
+        }
+    }
+    false
+}
+
 /// Adds under which name each crate is known to the source: the session hashes them in the order of their places. A crate without a place
 /// that isn't rustc's own is searched, and so is refused.
 fn add_crates(
@@ -161,7 +169,7 @@ fn add_crates(
                 };
                 additions.add(alloc, "crate's digest", digest.as_bytes())?;
             }
-            None if OWN_CRATES.iter().any(|own| name.ends_with(own.as_bytes())) => {}
+            None if is_own_crate(name) => {}
             None => return Err(HostError::Parts),
         }
     }
@@ -177,7 +185,7 @@ pub fn additions_of<R: Files + AllocGlobal>(
 ) -> Result<Additions, HostError> {
     let alloc = rt.alloc();
     let mut additions = Additions::new(alloc);
-    for name in READ {
+    for name in &READ {
         additions.add_if_any(alloc, name, line.value_of(name.as_bytes()))?;
     }
     for value in values_of(alloc, words, "--check-cfg")? {

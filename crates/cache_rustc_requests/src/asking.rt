@@ -33,9 +33,10 @@ fn drop_messages<R: Files>(rt: &R, line: &CommandLine) -> io::Result<()> {
 
 /// The first word of a command, where it names a toolchain to rustup's proxy.
 pub fn toolchain_word(words: &[OsBytes]) -> Option<&OsBytes> {
-    words
-        .first()
-        .filter(|word| word.as_bytes().starts_with(b"+"))
+    match words {
+        [word, ..] if word.as_bytes().starts_with(b"+") => Some(word),
+        _ => None,
+    }
 }
 
 /// What rustc prints for these words, after the one that names a toolchain, or `Parts` where it fails.

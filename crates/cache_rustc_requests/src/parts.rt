@@ -1,5 +1,6 @@
 //! The files that a rustc runs and takes from its own folder. They may be replaced without it, so its digest is theirs too.
 
+use crate::words::begins_with;
 use cache_host::HostError;
 use memchr::memmem;
 use std::alloc::Global;
@@ -64,9 +65,7 @@ fn has_part(name: &[u8], part: &[u8]) -> bool {
 
 /// Whether a file of that name is one of a rustc's own libraries.
 fn is_own_library(name: &[u8]) -> bool {
-    OWN_LIBRARIES
-        .iter()
-        .any(|front| name.starts_with(front.as_bytes()))
+    begins_with(&OWN_LIBRARIES, name)
 }
 
 /// Whether a folder of the variable `LD_LIBRARY_PATH` has libraries that may be loaded in the place of those of a rustc and the system.
@@ -101,6 +100,17 @@ pub fn driver_files<R: Files + AllocGlobal>(
     in_row(rt.alloc(), files)
 }
 
+/// Adds the crates of the standard library for a machine, and what else lies beside them.
+fn add_machine<R: Files + AllocGlobal>(
+    rt: &R,
+    sysroot: &str,
+    machine: &str,
+    files: &mut BTreeSet<String>,
+) -> Result<(), HostError> {
+    let folder = format!(in rt.alloc(); "{sysroot}/lib/rustlib/{machine}/lib")?;
+    add_files(rt, folder.as_str(), Wanted::All, files)
+}
+
 /// The crates of the standard library for these machines, and what else lies beside them.
 pub fn library_files<R: Files + AllocGlobal>(
     rt: &R,
@@ -108,13 +118,14 @@ pub fn library_files<R: Files + AllocGlobal>(
     version: &str,
     target: Option<&str>,
 ) -> Result<Vec<String>, HostError> {
-    let alloc = rt.alloc();
-    let mut files = BTreeSet::new(alloc);
-    for machine in machine_in(version).into_iter().chain(target) {
-        let folder = format!(in alloc; "{sysroot}/lib/rustlib/{machine}/lib")?;
-        add_files(rt, folder.as_str(), Wanted::All, &mut files)?;
+    let mut files = BTreeSet::new(rt.alloc());
+    if let Some(machine) = machine_in(version) {
+        add_machine(rt, sysroot, machine, &mut files)?;
     }
-    in_row(alloc, files)
+    if let Some(machine) = target {
+        add_machine(rt, sysroot, machine, &mut files)?;
+    }
+    in_row(rt.alloc(), files)
 }
 
 /// These in a row.

@@ -1,7 +1,7 @@
 //! What is passed through before the session is asked: words and variables of which it isn't known what rustc makes by them, and messages that
 //! would be written for a terminal. docs/WRAPPER.md says what each does.
 
-use crate::words::{UnknownWord, unknown_word};
+use crate::words::{UnknownWord, begins_with, is_among, unknown_word};
 use base_files::OsBytes;
 use cache_host::{CommandLine, HostError};
 use cache_settings::Key;
@@ -45,9 +45,7 @@ pub fn has_json(line: &CommandLine) -> bool {
 /// Whether standard error is a terminal.
 fn is_at_terminal<R: Files + AllocGlobal>(rt: &R) -> bool {
     match fs::read_link(rt, STANDARD_ERROR) {
-        Ok(path) => TERMINALS
-            .iter()
-            .any(|front| path.as_str().starts_with(front)),
+        Ok(path) => begins_with(&TERMINALS, path.as_str().as_bytes()),
         Err(_) => false,
     }
 }
@@ -76,10 +74,7 @@ pub fn reason_against<R: Files + AllocGlobal>(
 ) -> Result<Option<String>, HostError> {
     let alloc = rt.alloc();
     for (name, value) in line.env.as_slice() {
-        let is_known = !VARIABLES
-            .iter()
-            .any(|variable| name.as_bytes() == variable.as_bytes());
-        if !is_known && !value.as_bytes().is_empty() {
+        if is_among(&VARIABLES, name.as_bytes()) && !value.as_bytes().is_empty() {
             let name = name.clone()?;
             return Ok(Some(format!(in alloc; "{name}")?));
         }

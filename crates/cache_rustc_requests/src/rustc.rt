@@ -17,7 +17,7 @@ use std::rt::Files;
 
 /// Whether a file is called as rustc is.
 pub fn is_named_rustc(path: &str) -> bool {
-    file_name(path.as_bytes()) == Some(b"rustc".as_slice())
+    matches!(file_name(path.as_bytes()), Some(b"rustc"))
 }
 
 /// The text without the end of its line.
@@ -55,7 +55,7 @@ fn place_of<P: Print + Files + AllocGlobal, I: Read>(
     ensures { host.new.compiled ≡ host.old.compiled }
 {
     let file = fs::canonicalize(rt, line.executable.as_str())?;
-    if file_name(file.as_str().as_bytes()) == Some(b"rustup".as_slice()) {
+    if let Some(b"rustup") = file_name(file.as_str().as_bytes()) {
         return place_by_proxy(rt, line, host);
     }
     let file = String::from_str(rt.alloc(), file.as_str())?;

@@ -2,15 +2,26 @@
 
 use crate::tables::{CODEGEN, FLAGS, FOLDER, GENERATION, LETTERS, SEARCHED, UNNAMED_FILES, VALUED};
 use base_files::OsBytes;
+use memchr::memchr;
 
 /// Whether a word is one of these.
-fn is_among(words: &[&str], word: &[u8]) -> bool {
+pub(crate) fn is_among(words: &[&str], word: &[u8]) -> bool {
     words.iter().any(|it| word == it.as_bytes())
+}
+
+/// Whether a text begins with one of these.
+pub(crate) fn begins_with(fronts: &[&str], text: &[u8]) -> bool {
+    for front in fronts {
+        if text.starts_with(front.as_bytes()) {
+            return true;
+        }
+    }
+    false
 }
 
 /// What comes before the first `=`.
 fn before_equals(word: &[u8]) -> &[u8] {
-    match word.iter().position(|byte| *byte == b'=') {
+    match memchr(b'=', word) {
         Some(at) => word.get(..at).unwrap_or(word),
         None => word,
     }
@@ -29,6 +40,16 @@ fn value_behind<'a>(option: &str, word: &'a [u8]) -> Option<&'a [u8]> {
     }
 }
 
+/// What comes after the letters of the first of these options that has a value in the word.
+fn value_behind_one<'a>(options: &[&str], word: &'a [u8]) -> Option<&'a [u8]> {
+    for option in options {
+        if let Some(value) = value_behind(option, word) {
+            return Some(value);
+        }
+    }
+    None
+}
+
 /// Whether the value of an option of code generation is known.
 fn is_known_codegen(value: &[u8]) -> bool {
     is_among(&CODEGEN, before_equals(value)) && value != UNNAMED_FILES.as_bytes()
@@ -36,9 +57,7 @@ fn is_known_codegen(value: &[u8]) -> bool {
 
 /// Whether a folder is searched for what is known.
 fn is_known_folder(value: &[u8]) -> bool {
-    SEARCHED
-        .iter()
-        .any(|kind| value.starts_with(kind.as_bytes()))
+    begins_with(&SEARCHED, value)
 }
 
 /// Whether the word is an option whose value is the next one.
@@ -63,19 +82,16 @@ fn is_known(word: &[u8]) -> bool {
     if is_among(&FLAGS, word) || takes_next(word) || is_among(&VALUED, before_equals(word)) {
         return true;
     }
-    if LETTERS
-        .iter()
-        .any(|option| value_behind(option, word).is_some())
-    {
+    if value_behind_one(&LETTERS, word).is_some() {
         return true;
     }
     if let Some(value) = value_behind(FOLDER, word) {
         return is_known_folder(value);
     }
-    let value = GENERATION
-        .iter()
-        .find_map(|option| value_behind(option, word));
-    value.is_some_and(|value| is_known_codegen(value))
+    match value_behind_one(&GENERATION, word) {
+        Some(value) => is_known_codegen(value),
+        None => false,
+    }
 }
 
 /// Whether a user has the word kept, though it isn't known.
