@@ -66,7 +66,10 @@ fn put_outputs<R: Files + AllocGlobal>(
     outputs: &[Output],
     paths: &[OsBytes],
 ) -> Result<(), HostError> {
-    for (output, path) in outputs.iter().zip(paths.iter()) {
+    for (number, output) in outputs.iter().enumerate() {
+        let Some(path) = paths.get(number) else {
+            break;
+        };
         replace(rt, line, path, output.contents.as_bytes())?;
     }
     Ok(())
@@ -79,12 +82,15 @@ pub fn have_places<R: Files>(
     paths: &[OsBytes],
     dep_info: Option<&OsBytes>,
 ) -> Result<bool, HostError> {
-    for path in paths.iter().chain(dep_info) {
+    for path in paths {
         if !is_replaced(rt, text_in(path)?) {
             return Ok(false);
         }
     }
-    Ok(true)
+    match dep_info {
+        Some(path) => Ok(is_replaced(rt, text_in(path)?)),
+        None => Ok(true),
+    }
 }
 
 /// Gives kept outputs at these paths, the text on dependencies, and after them the messages.

@@ -56,10 +56,12 @@ const WIDTH: &str = "--diagnostic-width=";
 
 /// How wide the terminal is, as a word gives it, or `none` where no word does.
 fn width_in(words: &[OsBytes]) -> &[u8] {
-    words
-        .iter()
-        .find_map(|word| word.as_bytes().strip_prefix(WIDTH.as_bytes()))
-        .unwrap_or(b"none")
+    for word in words {
+        if let Some(width) = word.as_bytes().strip_prefix(WIDTH.as_bytes()) {
+            return width;
+        }
+    }
+    b"none"
 }
 
 /// What a session is given about a file of that size: nothing of its times.
@@ -227,7 +229,7 @@ impl KnownCrate {
         rt: &R,
         path: OsBytes,
     ) -> Result<bool, HostError> {
-        if self.loaded.as_ref() == Some(&path) {
+        if matches!(&self.loaded, Some(last) if *last == path) {
             return Ok(false);
         }
         self.loaded = Some(path.clone()?);

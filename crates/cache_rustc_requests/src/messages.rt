@@ -12,10 +12,12 @@ const NOTICES: [&str; 2] = [
 
 /// What a notice says of its path: nothing where the line is none.
 fn path_in(line: &[u8]) -> Option<(&[u8], &[u8])> {
-    let front = NOTICES
-        .iter()
-        .find(|front| line.starts_with(front.as_bytes()))?;
-    line.split_at_checked(front.len())
+    for front in &NOTICES {
+        if line.starts_with(front.as_bytes()) {
+            return line.split_at_checked(front.len());
+        }
+    }
+    None
 }
 
 /// Whether all lines are notices of outputs.

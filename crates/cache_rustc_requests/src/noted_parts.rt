@@ -113,9 +113,12 @@ fn kept_under<R: Files + AllocGlobal>(
 
 /// Whether a row's value says something to people.
 fn is_told(row: &Row) -> bool {
-    !DIGESTS
-        .iter()
-        .any(|front| row.0.as_bytes().starts_with(front))
+    for front in &DIGESTS {
+        if row.0.as_bytes().starts_with(front) {
+            return false;
+        }
+    }
+    true
 }
 
 /// The value of the row, or `none` where there is no row.
@@ -150,10 +153,20 @@ fn row_difference(
     Ok(OsBytes::from_vec(text.into_bytes()))
 }
 
+/// How many rows two lists begin with alike.
+fn alike_ahead(here: &[Row], there: &[Row]) -> usize {
+    for (at, row) in here.iter().enumerate() {
+        match there.get(at) {
+            Some(other) if *row == *other => {}
+            _ => return at,
+        }
+    }
+    here.len()
+}
+
 /// The first row in which two lists differ; an empty text where they are alike.
 fn difference(alloc: Global, here: &[Row], there: &[Row]) -> Result<OsBytes, HostError> {
-    let pairs = here.iter().zip(there.iter());
-    let ahead = pairs.take_while(|pair| pair.0 == pair.1).count();
+    let ahead = alike_ahead(here, there);
     match (here.get(ahead), there.get(ahead)) {
         (Some(row), Some(other)) if row.0 != other.0 && row_in(here, &other.0).is_none() => {
             row_difference(alloc, other, here, there)
