@@ -63,7 +63,7 @@ impl Audited {
                 bytes_of(&known.written),
             ),
         ];
-        for (name, kept, made) in texts {
+        for (name, kept, made) in &texts {
             let found = difference_of_texts(alloc, name, kept, made)?;
             if found.is_some() {
                 return Ok(found);
@@ -71,7 +71,7 @@ impl Audited {
         }
         match self.side_files == known.side_made {
             true => Ok(None),
-            false => Ok(Some(format!(in alloc; "files beside the object")?)),
+            false => Ok(Some(String::from_str(alloc, "files beside the object")?)),
         }
     }
 }

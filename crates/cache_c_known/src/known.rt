@@ -175,7 +175,7 @@ impl Known {
         rt: &R,
         path: OsBytes,
     ) -> Result<bool, HostError> {
-        if self.loaded.as_ref() == Some(&path) {
+        if matches!(&self.loaded, Some(last) if *last == path) {
             return Ok(false);
         }
         self.loaded = Some(path.clone()?);
@@ -243,7 +243,7 @@ impl Known {
             return false;
         }
         match self.dependency_file() {
-            Some(path) => path.as_bytes() != b"/dev/null".as_slice(),
+            Some(path) => !matches!(path.as_bytes(), b"/dev/null"),
             None => false,
         }
     }

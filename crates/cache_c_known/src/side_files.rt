@@ -39,7 +39,12 @@ impl Known {
             return Ok(());
         };
         let made = made_since(rt, side_files.paths.as_slice(), before)?.into_vec();
-        for (ending, contents) in side_files.endings.iter().zip(made) {
+        let mut number: usize = 0;
+        for contents in made {
+            let Some(ending) = side_files.endings.as_slice().get(number) else {
+                break;
+            };
+            number = number.saturating_add(1);
             if let Some(contents) = contents {
                 let ending = OsBytes::from_slice(rt.alloc(), ending.as_bytes())?;
                 self.side_made.push((ending, contents))?;
