@@ -106,11 +106,10 @@ impl Listings {
         rt: &R,
         folder: &Metadata,
     ) -> Result<bool, AllocError> {
-        Ok(
-            folder.ctime_nsec() != 0
-                && State::of(folder).is_before(self.before)
-                && self.devices.have(rt, folder.dev())?,
-        )
+        match folder.ctime_nsec() != 0 && State::of(folder).is_before(self.before) {
+            true => self.devices.have(rt, folder.dev()),
+            false => Ok(false),
+        }
     }
 }
 

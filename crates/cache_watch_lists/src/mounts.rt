@@ -32,14 +32,23 @@ fn device_in(text: &[u8]) -> Option<u64> {
 
 /// The device in a line of the list, where its file system is of one of these types.
 fn trusted_in(line: &[u8]) -> Option<u64> {
-    let mut words = line.split(|byte| *byte == b' ');
-    let device = words.nth(2)?;
-    let mut behind = words.skip_while(|word| *word != b"-".as_slice());
-    let name = behind.nth(1)?;
-    match TYPES.iter().any(|it| *it == name) {
-        true => device_in(device),
-        false => None,
+    let mut count: usize = 0;
+    let mut device: &[u8] = &[];
+    let mut is_type = false;
+    for word in line.split(|byte| *byte == b' ') {
+        if is_type {
+            return match TYPES.contains(&word) {
+                true => device_in(device),
+                false => None,
+            };
+        }
+        if count == 2 {
+            device = word;
+        }
+        is_type = count > 2 && matches!(word, b"-");
+        count = count.saturating_add(1);
     }
+    None
 }
 
 /// The devices in a list of mounts on which a file whose state is the same as before has the same contents as before.

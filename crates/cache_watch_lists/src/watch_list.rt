@@ -191,7 +191,7 @@ fn found_in<R: Files + AllocGlobal>(
     }
     let path = format!(in rt.alloc(); "{folder}/{name}")?;
     let found = found_at(rt, path.as_str());
-    if found == Some(Found::Nothing) {
+    if let Some(Found::Nothing) = found {
         listing.take_in_vain();
     }
     Ok(found)
