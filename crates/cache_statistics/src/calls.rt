@@ -60,17 +60,22 @@ fn without_object(words: &[OsBytes]) -> &'static str {
 
 /// The counter of a reason that begins with one of `BEGINNINGS`.
 fn by_beginning(reason: &str) -> Option<&'static str> {
-    let (_, counter) = BEGINNINGS
-        .iter()
-        .copied()
-        .find(|it| reason.starts_with(it.0))?;
-    Some(counter)
+    for (beginning, counter) in &BEGINNINGS {
+        if reason.starts_with(*beginning) {
+            return Some(*counter);
+        }
+    }
+    None
 }
 
 /// Whether it is the name of a variable.
 fn is_variable(text: &str) -> bool {
-    text.bytes()
-        .all(|byte| byte.is_ascii_uppercase() || byte == b'_')
+    for byte in text.as_bytes() {
+        if !matches!(byte, b'A'..=b'Z' | b'_') {
+            return false;
+        }
+    }
+    true
 }
 
 /// A text up to its first colon.
@@ -106,16 +111,12 @@ fn push_name(
 
 /// The counter of a call that was passed through for a reason that has one.
 fn of_reason(why: &str, words: &[OsBytes]) -> Option<&'static str> {
-    if why == "not a compilation" {
-        Some(without_object(words))
-    } else if why == "-E" {
-        Some("called_for_preprocessing")
-    } else if why == TO_STANDARD_OUTPUT {
-        Some("output_to_stdout")
-    } else if why == "-" {
-        Some("uncacheable_standard_input")
-    } else {
-        None
+    match why {
+        "not a compilation" => Some(without_object(words)),
+        "-E" => Some("called_for_preprocessing"),
+        "-" => Some("uncacheable_standard_input"),
+        _ if why == TO_STANDARD_OUTPUT => Some("output_to_stdout"),
+        _ => None,
     }
 }
 

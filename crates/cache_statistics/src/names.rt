@@ -46,7 +46,7 @@ pub const ERROR: &str = "error_";
 pub fn name_of(alloc: Global, front: &str, text: &str) -> Result<String, AllocError> {
     let mut name = String::from_str(alloc, front)?;
     let mut is_apart = false;
-    for byte in text.bytes() {
+    for byte in text.as_bytes() {
         if !byte.is_ascii_alphanumeric() {
             is_apart = true;
             continue;
