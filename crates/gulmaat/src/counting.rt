@@ -74,9 +74,10 @@ fn counters_done(
 /// Adds what asking a server came to.
 fn add_remote(alloc: Global, tally: &Tally, counters: &mut Vec<String>) -> Result<(), HostError> {
     let numbers = [tally.hits, tally.misses, tally.errors, tally.timeouts];
-    for (name, number) in REMOTE.iter().zip(numbers.iter()) {
-        if *number != 0 {
-            counters.push(String::from_str(alloc, name)?)?;
+    for (place, name) in REMOTE.iter().enumerate() {
+        match numbers.as_slice().get(place) {
+            None | Some(0) => {}
+            Some(_) => counters.push(String::from_str(alloc, name)?)?,
         }
     }
     Ok(())

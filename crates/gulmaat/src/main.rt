@@ -73,12 +73,12 @@ fn answer<R>(rt: &R, caller: &Caller<'_>, compiler: &str, words: &[String]) -> E
 where
     R: Print + Eprint + Files<File = File> + Env + Clock + AllocGlobal + Clone + Drop,
 {
-    match words.split_first() {
-        Some((word, _)) if is_of_logs(word.as_bytes()) => ended(
+    match words {
+        [word, ..] if is_of_logs(word.as_bytes()) => ended(
             rt,
             &show_builds(rt, folder_of(caller.program), words),
         ),
-        Some((word, command)) if word.as_str() == "--why" => ended(
+        [word, command @ ..] if matches!(word.as_str(), "--why") => ended(
             rt,
             &say_why(rt, caller, compiler, command),
         ),

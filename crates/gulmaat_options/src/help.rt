@@ -60,10 +60,12 @@ pub fn built_lines<R: Files + AllocGlobal>(rt: &R, program: &str) -> Result<Stri
 
 /// The line that begins with this word.
 pub fn line_of<'a>(lines: &'a str, word: &str) -> &'a str {
-    match lines.lines().find(|line| line.starts_with(word)) {
-        Some(line) => line,
-        None => "",
+    for line in lines.lines() {
+        if line.starts_with(word) {
+            return line;
+        }
     }
+    ""
 }
 
 /// Prints what the program is.

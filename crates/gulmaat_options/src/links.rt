@@ -23,10 +23,12 @@ pub fn is_compiler(name: &str) -> bool {
 
 /// Whether it is a number, perhaps with dots in it.
 fn is_version(text: &str) -> bool {
+    for byte in text.as_bytes() {
+        if !matches!(byte, b'0'..=b'9' | b'.') {
+            return false;
+        }
+    }
     !text.is_empty()
-        && text
-            .bytes()
-            .all(|byte| byte.is_ascii_digit() || byte == b'.')
 }
 
 /// Puts a link to the host under that name into the folder, in the place of an old one.

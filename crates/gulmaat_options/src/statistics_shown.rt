@@ -176,7 +176,7 @@ pub fn show<R: Print + AllocGlobal>(
 fn is_in_rows(name: &str) -> bool {
     HITS.contains(&name)
         || MISSES.contains(&name)
-        || name == "remote_storage_hit"
+        || matches!(name, "remote_storage_hit")
         || is_passed(name)
         || is_error(name)
 }
@@ -233,7 +233,7 @@ fn is_usual(name: &str) -> bool {
         || PASSED.contains(&name)
         || REMOTE.contains(&name)
         || name == ZEROED
-        || name == "cleanups_performed"
+        || matches!(name, "cleanups_performed")
 }
 
 /// Prints the names that aren't printed in each case, with their numbers.
