@@ -132,7 +132,7 @@ fn file_at<R: Files>(rt: &R, path: &OsBytes) -> Option<(u64, u64)> {
 /// Whether that file is an input of the call.
 fn is_input<R: Files>(rt: &R, line: &CommandLine, file: (u64, u64)) -> bool {
     for placed in PlacedWords::of(line.words.as_slice()) {
-        if placed.is_input() && file_at(rt, placed.word) == Some(file) {
+        if placed.is_input() && matches!(file_at(rt, placed.word), Some(found) if found == file) {
             return true;
         }
     }

@@ -65,7 +65,7 @@ fn look_up<P: Print + Files + AllocGlobal, I: Read>(
     let Some(key) = key else {
         return Ok(false);
     };
-    if known.looked_up.as_ref() == Some(&key.digest) {
+    if matches!(&known.looked_up, Some(digest) if *digest == key.digest) {
         return Ok(false);
     }
     known.looked_up = Some(key.digest.clone()?);

@@ -127,6 +127,17 @@ fn new_row(alloc: Global, row: &Row) -> Result<Option<String>, HostError> {
     Ok(Some(both_values(alloc, &row.0, value.as_str(), "none")?))
 }
 
+/// How many rows two lists begin with alike.
+fn alike_ahead(one: &[Row], other: &[Row]) -> usize {
+    for (at, row) in one.iter().enumerate() {
+        match other.get(at) {
+            Some(there) if *there == *row => {}
+            _ => return at,
+        }
+    }
+    one.len()
+}
+
 /// The first row in which the values of two lists of variables differ, as it is in each; nothing where there is none.
 pub fn difference_of_additions(
     alloc: Global,
@@ -135,8 +146,7 @@ pub fn difference_of_additions(
 ) -> Result<Option<String>, HostError> {
     let one = rows_in(alloc, variables)?;
     let other = rows_in(alloc, earlier)?;
-    let pairs = one.as_slice().iter().zip(other.as_slice().iter());
-    let ahead = pairs.take_while(|pair| pair.0 == pair.1).count();
+    let ahead = alike_ahead(one.as_slice(), other.as_slice());
     let here = one.as_slice().get(ahead);
     row_difference(alloc, here, other.as_slice().get(ahead), other.as_slice())
 }

@@ -84,7 +84,7 @@ fn are_of_one<R: Files>(rt: &R, one: &str, other: &str) -> bool {
 
 /// Whether a variable is a `PWD` that names another folder than the call's.
 fn names_other_folder<R: Files>(rt: &R, dir: &OsBytes, name: &OsBytes, value: &OsBytes) -> bool {
-    if name.as_bytes() != b"PWD".as_slice() || value == dir {
+    if !matches!(name.as_bytes(), b"PWD") || value == dir {
         return false;
     }
     match (
