@@ -22,8 +22,13 @@ pub enum EntryCompiler {
 
 /// What comes after the last slash of either kind.
 fn file_name(path: &[u8]) -> &[u8] {
-    let mut parts = path.rsplit(|byte| *byte == b'/' || *byte == b'\\');
-    parts.next().unwrap_or(path)
+    let mut name = path;
+    for (at, byte) in path.iter().enumerate() {
+        if matches!(byte, b'/' | b'\\') {
+            name = path.get(at.saturating_add(1)..).unwrap_or(path);
+        }
+    }
+    name
 }
 
 /// The name without `.exe` at its end.
@@ -51,19 +56,22 @@ fn without_target_and_version(name: &[u8]) -> &[u8] {
 /// The C compiler with an executable of that file name. The names of those like Gcc may have a target and a version about them.
 fn c_compiler_of(name: &[u8]) -> Option<CCompilerKind> {
     let bare = without_target_and_version(name);
-    CCompilerKind::ALL
-        .iter()
-        .copied()
-        .find(|kind| match kind.spelling() {
+    for kind in CCompilerKind::ALL.iter() {
+        let is_called_so = match kind.spelling() {
             Spelling::Gnu => kind.has_executable(bare),
             Spelling::Plain | Spelling::Msvc => kind.has_executable(name),
-        })
+        };
+        if is_called_so {
+            return Some(*kind);
+        }
+    }
+    None
 }
 
 /// The compiler that an executable of this path is, where its name shows it.
 pub fn compiler_of(executable: &[u8]) -> Option<EntryCompiler> {
     let name = without_exe(file_name(executable));
-    if name == b"rustc".as_slice() {
+    if matches!(name, b"rustc") {
         return Some(EntryCompiler::Rustc);
     }
     Some(EntryCompiler::C(c_compiler_of(name)?))
@@ -72,12 +80,12 @@ pub fn compiler_of(executable: &[u8]) -> Option<EntryCompiler> {
 /// Whether an executable of this path runs the compiler that the words after it name.
 pub fn is_wrapper(executable: &[u8]) -> bool {
     let name = without_exe(file_name(executable));
-    name == b"ccache".as_slice() || name == b"sccache".as_slice() || name == b"distcc".as_slice()
+    matches!(name, b"ccache" | b"sccache" | b"distcc")
 }
 
 /// The compiler of this name, as `--lines` takes it.
 pub fn compiler_called(name: &str) -> Option<EntryCompiler> {
-    if name == "rustc" {
+    if matches!(name, "rustc") {
         return Some(EntryCompiler::Rustc);
     }
     Some(EntryCompiler::C(CCompilerKind::from_name(name)?))

@@ -14,10 +14,15 @@ const DEPTH: u32 = 64;
 
 /// Whether the words may make a compiler ask for a file.
 fn may_ask(entry: &Entry) -> bool {
-    entry.compiler == Some(EntryCompiler::Rustc)
-        || entry.words.as_slice().iter().any(|word| {
-            word.as_bytes().starts_with(b"@") || word.as_bytes().starts_with(b"-@")
-        })
+    if let Some(EntryCompiler::Rustc) = entry.compiler {
+        return true;
+    }
+    for word in entry.words.as_slice() {
+        if let [b'@', ..] | [b'-', b'@', ..] = word.as_bytes() {
+            return true;
+        }
+    }
+    false
 }
 
 /// The contents of a regular file on the disk, where it can be read.

@@ -18,7 +18,8 @@ fn keep_file(
     files: &mut MemoryFiles,
     words: Vec<OsBytes>,
 ) -> Result<(), AllocError> {
-    let mut words = words.into_iter().skip(1);
+    let mut words = words.into_iter();
+    let _ = words.next();
     let Some(path) = words.next() else {
         return Ok(());
     };
@@ -36,7 +37,10 @@ fn keep_file(
 
 /// The lines of a text, without the end of the last.
 fn lines_of(text: &[u8]) -> &[u8] {
-    text.strip_suffix(b"\n").unwrap_or(text)
+    match text {
+        [front @ .., b'\n'] => front,
+        _ => text,
+    }
 }
 
 /// The command lines of a text to that compiler, and the files that it gives them.

@@ -34,7 +34,7 @@ pub(crate) fn write_rows(
 fn row_line(alloc: Global, name: &str, numbers: &[u64]) -> Result<String, AllocError> {
     let count = numbers.len();
     let mut line = format!(in alloc; "  {count} {name}:")?;
-    for number in numbers.iter().take(SHOWN) {
+    for number in numbers.get(..SHOWN).unwrap_or(numbers) {
         write!(line, " {number}")?;
     }
     if count > SHOWN {

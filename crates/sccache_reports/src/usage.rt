@@ -29,7 +29,7 @@ The status is 0, and 2 where what is read is no database.
 /// What `--help` prints.
 pub(crate) fn help(alloc: Global) -> Result<String, AllocError> {
     let mut text = String::from_str(alloc, BEFORE_NAMES)?;
-    for kind in CCompilerKind::ALL {
+    for kind in CCompilerKind::ALL.iter() {
         text.push_str(kind.name())?;
         text.push_str(", ")?;
     }
@@ -68,26 +68,28 @@ fn report_usage(args: &[String]) -> Option<Usage> {
 
 /// What is shown of lines, by the arguments after the compiler's name.
 fn shown_by(args: &[String]) -> Option<Shown> {
-    match args.split_first() {
-        None => Some(Shown::Lists),
-        Some((arg, rest)) if rest.is_empty() => match arg.as_str() {
+    match args {
+        [] => Some(Shown::Lists),
+        [arg] => match arg.as_str() {
             "--compile" => Some(Shown::Compile),
             "--preprocess" => Some(Shown::Preprocess),
             _ => None,
         },
-        Some(_) => None,
+        _ => None,
     }
 }
 
 /// What the arguments after `--lines` ask for.
 fn lines_usage(args: &[String]) -> Option<Usage> {
-    let (name, rest) = args.split_first()?;
+    let [name, rest @ ..] = args else {
+        return None;
+    };
     Some(Usage::Lines(compiler_called(name.as_str())?, shown_by(rest)?))
 }
 
 /// What these arguments ask for, and `None` where they aren't those that are taken.
 pub(crate) fn usage_of(args: &[String]) -> Option<Usage> {
-    let Some((first, rest)) = args.split_first() else {
+    let [first, rest @ ..] = args else {
         return report_usage(args);
     };
     match first.as_str() {
