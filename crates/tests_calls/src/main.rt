@@ -157,7 +157,7 @@ fn run_words<R: Print + Eprint + Input + Files + AllocGlobal>(
     words: &[String],
 ) -> ExitCode {
     match words {
-        [word, rest @ ..] if word.as_str() == "hostile" => {
+        [word, rest @ ..] if matches!(word.as_str(), "hostile") => {
             ended(rt, &tests_hostile_runs::run(rt, rest))
         }
         words => ended(rt, &do_words(rt, words)),
@@ -185,7 +185,7 @@ fn do_words<R: Print + Eprint + Input + Files + AllocGlobal>(
     words: &[String],
 ) -> Result<(), Fault> {
     match words {
-        [word] if word.as_str() == "rows" => make_calls(rt),
+        [word] if matches!(word.as_str(), "rows") => make_calls(rt),
         [work, repeats, given, others @ ..] => {
             let line = line_for(rt, work, number_of(repeats)?, given, others)?;
             println!(rt; "{line}").map_err(|_error: io::Error| Fault::Output)
@@ -339,10 +339,9 @@ fn text_tally<R: Files + AllocGlobal>(
     let Ok(text) = str::from_utf8(bytes.as_slice()) else {
         return Err(Fault::File);
     };
-    if work.as_str() == "read_deps" {
-        Ok(source_readings(rt.alloc(), text, repeats)?)
-    } else {
-        Ok(rewritings(rt.alloc(), text, repeats)?)
+    match work.as_str() {
+        "read_deps" => Ok(source_readings(rt.alloc(), text, repeats)?),
+        _ => Ok(rewritings(rt.alloc(), text, repeats)?),
     }
 }
 

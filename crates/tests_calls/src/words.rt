@@ -110,13 +110,15 @@ fn chain(alloc: Global, count: u32) -> Result<Vec<OsBytes>, AllocError>
 /// Files of these texts in the folder `/w`, named by their numbers.
 fn files_of(alloc: Global, texts: Vec<OsBytes>) -> Result<MemoryFiles, AllocError> {
     let mut files = MemoryFiles::new(alloc);
-    for (number, contents) in (0u64..).zip(texts) {
+    let mut number: u64 = 0;
+    for contents in texts {
         let path = format!(in alloc; "/w/{number}")?;
         let mtime = FileTime::from_seconds(0);
         files.insert(
             OsBytes::from_vec(path.into_bytes()),
             MemoryFile { contents, mtime },
         )?;
+        number = number.saturating_add(1);
     }
     Ok(files)
 }

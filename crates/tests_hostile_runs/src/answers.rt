@@ -25,7 +25,7 @@ impl AnswerTexts {
 
     /// Whether it is this fault.
     pub(crate) fn is_fault(&self, reason: &str) -> bool {
-        self.word == "fault" && self.whole.as_str() == reason
+        matches!(self.word, "fault") && self.whole.as_str() == reason
     }
 }
 

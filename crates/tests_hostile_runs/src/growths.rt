@@ -40,7 +40,7 @@ fn push_refused(turn: &Turn, text: &mut String) -> Result<(), AllocError> {
 fn push_unkept(turn: &Turn, text: &mut String) -> Result<(), AllocError> {
     let (before, after) = (&turn.before.outputs, &turn.after.outputs);
     push_unless(
-        turn.answer.word == "fresh",
+        matches!(turn.answer.word, "fresh"),
         "fresh where outputs aren't kept",
         text,
     )?;
@@ -82,7 +82,10 @@ fn push_compared(run: &Run, whole: &Run, text: &mut String) -> Result<(), AllocE
         "as many answers",
         text,
     )?;
-    for (turn, due) in run.turns.iter().zip(whole.turns.iter()) {
+    for (number, turn) in run.turns.as_slice().iter().enumerate() {
+        let Some(due) = whole.turns.as_slice().get(number) else {
+            break;
+        };
         refused = refused.saturating_add(push_turn(turn, due, text)?);
         let same = last_of(turn).word == due.answer.word;
         push_unless(same || !all_kept, "the same word where all is kept", text)?;

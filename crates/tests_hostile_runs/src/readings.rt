@@ -49,13 +49,15 @@ pub(crate) fn push_record(alloc: Global, bytes: &[u8], text: &mut String) -> Res
 
 /// The bytes up to the first line end, and those after it.
 fn first_line(bytes: &[u8]) -> (&[u8], &[u8]) {
-    let Some(end) = bytes.iter().position(|byte| *byte == b'\n') else {
-        return (bytes, &[]);
-    };
-    match bytes.split_at_checked(end) {
-        Some((line, [_, rest @ ..])) => (line, rest),
-        _ => (bytes, &[]),
+    for (end, byte) in bytes.iter().enumerate() {
+        if *byte != b'\n' {
+            continue;
+        }
+        if let Some((line, [_, rest @ ..])) = bytes.split_at_checked(end) {
+            return (line, rest);
+        }
     }
+    (bytes, &[])
 }
 
 /// The number of these digits, or 0 where they are none.

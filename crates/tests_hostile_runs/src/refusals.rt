@@ -31,7 +31,7 @@ fn push_refused(turn: &Turn, plain: &Turn, due: &str, text: &mut String) -> Resu
         .ticks
         .compile
         .wrapping_sub(turn.before.ticks.compile);
-    let is_due = compiles == u64::from(due == "tool compile");
+    let is_due = compiles == u64::from(matches!(due, "tool compile"));
     push_unless(is_due, "a compile only where that failed", text)?;
     let agrees = match &turn.again {
         Some(again) => again.agrees(&plain.answer),
@@ -52,7 +52,10 @@ fn push_turn(turn: &Turn, plain: &Turn, text: &mut String) -> Result<(), AllocEr
 /// Adds lines where requests aren't answered as they have to be.
 fn push_turns(turns: &[Turn], plain: &[Turn], text: &mut String) -> Result<(), AllocError> {
     push_unless(turns.len() == plain.len(), "as many answers", text)?;
-    for (turn, plain) in turns.iter().zip(plain.iter()) {
+    for (number, turn) in turns.iter().enumerate() {
+        let Some(plain) = plain.get(number) else {
+            break;
+        };
         push_turn(turn, plain, text)?;
     }
     Ok(())

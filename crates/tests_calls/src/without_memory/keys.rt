@@ -94,7 +94,7 @@ pub(crate) fn explain_fingerprints<R: Eprint + AllocGlobal>(rt: &R) -> Result<bo
     let [one, other] = fingerprints.as_slice() else {
         return Ok(false);
     };
-    Ok(explain(one, other) == Some(Part::Text) && explain(one, one).is_none())
+    Ok(matches!(explain(one, other), Some(Part::Text)) && explain(one, one).is_none())
 }
 
 /// Fingerprints of two texts.

@@ -44,8 +44,8 @@ pub(crate) fn slices<R: Eprint + AllocGlobal>(rt: &R) -> Result<bool, Fault> {
 /// The folder goes at both of its places, and what is between, before and after them stays.
 fn leaves_the_rest(folders: &[OsBytes]) -> bool {
     let mut slices = kept_slices(b"\"/p/a\" /p", folders);
-    slices.next() == Some(b"\"".as_slice())
-        && slices.next() == Some(b"/a\" ".as_slice())
+    matches!(slices.next(), Some(b"\""))
+        && matches!(slices.next(), Some(b"/a\" "))
         && slices.next().is_none()
 }
 
@@ -54,5 +54,5 @@ pub(crate) fn copy<R: Eprint + AllocGlobal>(rt: &R) -> Result<bool, Fault> {
     let alloc = rt.alloc();
     say_ready(rt);
     let copy = OsBytes::from_slice(alloc, b"word")?;
-    Ok(copy.as_bytes() == b"word".as_slice())
+    Ok(matches!(copy.as_bytes(), b"word"))
 }

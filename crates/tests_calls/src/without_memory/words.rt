@@ -44,7 +44,7 @@ fn counts_steps(options: &ByteTree<ArgData>) -> bool {
 
 fn is_include_flag(found: Option<&ArgInfo<ArgData>>) -> bool {
     match found {
-        Some(option) => option.flag() == "-I",
+        Some(option) => matches!(option.flag(), "-I"),
         None => false,
     }
 }
@@ -61,11 +61,11 @@ pub(crate) fn argument<R: Eprint + AllocGlobal>(rt: &R) -> Result<bool, Fault> {
 /// It has its flag and its value, and its value is separate.
 fn stands_apart(argument: &Argument<OsBytes>) -> bool {
     let has_value = match argument.get_data() {
-        Some(value) => value.as_bytes() == b"inc".as_slice(),
+        Some(value) => matches!(value.as_bytes(), b"inc"),
         None => false,
     };
     has_value
-        && argument.flag_str() == Some("-I")
+        && matches!(argument.flag_str(), Some("-I"))
         && matches!(
             argument,
             Argument::WithValue(_, _, ArgDisposition::Separated)
