@@ -110,9 +110,14 @@ fn is_number(value: &[u8]) -> bool {
         && value.iter().all(|byte| byte.is_ascii_digit() || *byte == b':' || *byte == b',')
 }
 
-/// Whether it is one of the names, which have commas between them.
-fn is_named(names: &[u8], name: &[u8]) -> bool {
-    names.split(|byte| *byte == b',').any(|it| it == name)
+/// Whether a word is one of these, which have that byte between them.
+fn is_one_of(words: &[u8], between: u8, word: &[u8]) -> bool {
+    for it in words.split(|byte| *byte == between) {
+        if it == word {
+            return true;
+        }
+    }
+    false
 }
 
 /// Whether a value is as the table says: a number, any text, or names with commas between them.
@@ -122,7 +127,7 @@ fn fits(said: &[u8], value: &[u8]) -> bool {
         b"*" => true,
         _ => value
             .split(|byte| *byte == b',')
-            .all(|name| is_named(said, name)),
+            .all(|name| is_one_of(said, b',', name)),
     }
 }
 
@@ -257,8 +262,7 @@ fn is_known(alloc: Global, placed: Placed<'_>) -> Result<bool, AllocError> {
 
 /// Whether a user says that a word may be kept: it is one of these, which have spaces between them.
 fn is_allowed(allowed: &str, word: &[u8]) -> bool {
-    let allowed = allowed.as_bytes();
-    allowed.split(|byte| *byte == b' ').any(|it| it == word)
+    is_one_of(allowed.as_bytes(), b' ', word)
 }
 
 /// The first of the words that isn't known, isn't among those that the compiler takes for granted, and that a user doesn't allow, by a list with
