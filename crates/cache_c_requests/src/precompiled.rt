@@ -16,7 +16,7 @@ const ENDINGS: [&[u8]; 2] = [b".gch", b".pch"];
 fn taken_in(placed: Placed<'_>) -> Option<&[u8]> {
     let word = placed.word.as_bytes();
     match placed.option {
-        Some(option) if option.as_bytes() == TAKING_IN => Some(word),
+        Some(option) if matches!(option.as_bytes(), TAKING_IN) => Some(word),
         Some(_) => None,
         None if placed.takes_value() => None,
         None => word.strip_prefix(TAKING_IN),

@@ -20,14 +20,18 @@ const OF_RUSTC: &[u8] = b"rustc";
 
 /// Whether variables that sources name have the values that a text gives.
 fn are_set_so(line: &CommandLine, variables: &[EnvDep]) -> bool {
-    variables.iter().all(|dep| {
+    for dep in variables {
         let pair = line.env.as_slice().iter().find(|pair| pair.0 == dep.name);
-        match (pair, &dep.value) {
+        let is_set_so = match (pair, &dep.value) {
             (Some(pair), Some(value)) => pair.1 == *value,
             (None, None) => true,
             (_, _) => false,
+        };
+        if !is_set_so {
+            return false;
         }
-    })
+    }
+    true
 }
 
 /// The other place at which rustc looks for the module of a file: `a/mod.rs` of `a.rs`, and the other way round.
@@ -113,7 +117,7 @@ impl KnownCrate {
         name: &str,
         kept: &KeptManifest,
     ) -> Result<bool, HostError> {
-        let is_of_rustc = kept.zone.as_bytes() == OF_RUSTC
+        let is_of_rustc = matches!(kept.zone.as_bytes(), OF_RUSTC)
             && kept.key.as_bytes() == name.as_bytes();
         if !is_of_rustc || !line.settings.is_on(Key::DirectMode) {
             return Ok(false);

@@ -22,9 +22,12 @@ fn path_in(line: &[u8]) -> Option<(&[u8], &[u8])> {
 
 /// Whether all lines are notices of outputs.
 pub fn are_notices(messages: &[u8]) -> bool {
-    messages
-        .split(|byte| *byte == b'\n')
-        .all(|line| line.is_empty() || path_in(line).is_some())
+    for line in messages.split(|byte| *byte == b'\n') {
+        if !line.is_empty() && path_in(line).is_none() {
+            return false;
+        }
+    }
+    true
 }
 
 /// Whether a folder is written in JSON as it is.

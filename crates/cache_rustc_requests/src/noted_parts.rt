@@ -86,7 +86,7 @@ pub fn name_of_parts(
 
 /// The rows that a file keeps. Nothing where it keeps something else.
 fn rows_of(alloc: Global, kept: KeptManifest) -> Result<Option<KeptRows>, HostError> {
-    if kept.zone.as_bytes() != OF_PARTS {
+    if !matches!(kept.zone.as_bytes(), OF_PARTS) {
         drop(kept);
         return Ok(None);
     }

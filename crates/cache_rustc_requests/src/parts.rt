@@ -84,7 +84,12 @@ pub fn archives_in<R: Files + AllocGlobal>(rt: &R, folder: &str) -> Result<Vec<S
 
 /// The machine in the version that a rustc prints, in its line `host: `.
 fn machine_in(version: &str) -> Option<&str> {
-    version.lines().find_map(|line| line.strip_prefix("host: "))
+    for line in version.lines() {
+        if let Some(machine) = line.strip_prefix("host: ") {
+            return Some(machine);
+        }
+    }
+    None
 }
 
 /// The rustc and the shared libraries that it runs.

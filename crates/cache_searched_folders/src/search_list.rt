@@ -80,14 +80,11 @@ impl<'a> SearchList<'a> {
 
     /// Takes a line, and says in which part the next one is.
     fn take(&mut self, part: Part, line: &'a str) -> Result<Part, AllocError> {
-        if line == QUOTED {
-            return Ok(Part::Quoted);
-        }
-        if line == BRACKETED {
-            return Ok(Part::Bracketed);
-        }
-        if line == END {
-            return Ok(Part::Behind);
+        match line {
+            QUOTED => return Ok(Part::Quoted),
+            BRACKETED => return Ok(Part::Bracketed),
+            END => return Ok(Part::Behind),
+            _ => {}
         }
         match (part, line.strip_prefix(' ')) {
             (Part::Quoted, Some(folder)) => self.quoted.push(folder)?,

@@ -114,8 +114,8 @@ fn of_reason(why: &str, words: &[OsBytes]) -> Option<&'static str> {
     match why {
         "not a compilation" => Some(without_object(words)),
         "-E" => Some("called_for_preprocessing"),
+        TO_STANDARD_OUTPUT => Some("output_to_stdout"),
         "-" => Some("uncacheable_standard_input"),
-        _ if why == TO_STANDARD_OUTPUT => Some("output_to_stdout"),
         _ => None,
     }
 }

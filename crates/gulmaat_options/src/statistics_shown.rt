@@ -232,8 +232,7 @@ fn is_usual(name: &str) -> bool {
         || MISSES.contains(&name)
         || PASSED.contains(&name)
         || REMOTE.contains(&name)
-        || name == ZEROED
-        || matches!(name, "cleanups_performed")
+        || matches!(name, ZEROED | "cleanups_performed")
 }
 
 /// Prints the names that aren't printed in each case, with their numbers.
