@@ -139,11 +139,12 @@ static int sources_have_escapes(const char *text, size_t size) {
     return !is_named;
 }
 
-/* Whether messages of the compile may have escapes in them that aren't the compiler's own: from a word, or from a file that it may quote. */
+/* Whether messages of the compile may have escapes in them that aren't the compiler's own: from a word, or from a file that it may quote. Or
+ * they aren't the plain ones once colours are taken out: the paths of GCC's analyzer are laid out by the width of what is coloured too. */
 static int may_quote_escapes(void) {
     size_t size;
     for (char **word = words + 1; *word; word++)
-        if (strchr(*word, ESCAPE)) return 1;
+        if (strchr(*word, ESCAPE) || !strcmp(*word, "-fanalyzer")) return 1;
     const char *bytes = map(text, &size);
     if (!bytes) return 1;
     int may = has_escape(bytes, size) || sources_have_escapes(bytes, size);

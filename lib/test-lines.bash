@@ -46,11 +46,55 @@ line_call() {
 # Each of these words, after a change by which so many are compiled anew: without debug information and warnings, and with them.
 line_calls() {
     local cc=$1 name=$2 bare=$3 others=$4
-    line_call "$name" "$bare" "$cc" -O1
+    # Clang has warnings that hang on lines, unless all are off.
+    line_call "$name" "$bare" "$cc" -O1 "$([ "$cc" = gcc ] && echo -O1 || echo -w)"
+    [ "$cc" = gcc ] || line_call "$name" "$others" "$cc" -O1
     line_call "$name" "$others" "$cc" -g
     line_call "$name" "$others" "$cc" -Wall -Wextra
     line_call "$name" "$others" "$cc" -fsanitize=undefined
     line_call "$name" "$others" "$cc" -g -O2 -Wall -MD
+}
+
+# A call on a source, and then on another one with the same text: each time it does the same as the compiler alone.
+line_change() {
+    local name=$1 before=$2 after=$3 contents status
+    shift 3
+    for contents in "$before" "$after"; do
+        printf '%b' "$contents" >it.c
+        rm -f it.o plain.o
+        "$@" -c it.c -o it.o 2>plain.err
+        status=$?
+        [ ! -f it.o ] || mv it.o plain.o
+        "$host" "$@" -c it.c -o it.o 2>ours.err
+        is "$name: $*: status" [ $? = $status ]
+        is "$name: $*: messages" cmp -s plain.err ours.err
+        [ ! -f plain.o ] || is "$name: $*: object" cmp -s plain.o it.o
+    done
+}
+
+# What hangs on how a source was written though no word asks for lines: pragmas, and with Clang macros, comments and columns.
+line_changes() {
+    local cc=$1 body='int f(int x, int a, int b) {\n if (x)\n' pragma='#pragma GCC diagnostic error "-Wmisleading-indentation"\n'
+    line_change "a warning by a pragma" "$pragma$body a = 1;\n        b = 2;\n return a + b;\n}\n" \
+        "$pragma$body\ta = 1;\n        b = 2;\n return a + b;\n}\n" "$cc"
+    [ "$cc" != gcc ] || {
+        line_change "paths of the analyzer" 'int f(void) {\n int *p = __builtin_malloc(4);\n *p = 1;\n return *p;\n}\n' \
+            'int f(void) {\n int *p = __builtin_malloc(8);\n if (p) __builtin_free(p);\n return *p;\n}\n' "$cc" -fanalyzer
+        return
+    }
+    line_change "a macro" '#define EQ x == 1\nint f(int x) {\n EQ;\n return x;\n}\n' \
+        '#define XX x == 1\nint f(int x) {\n x == 1;\n return x;\n}\n' "$cc"
+    pragma='#pragma clang diagnostic error "-Wdocumentation"\n'
+    line_change "a comment" '/** a */\nint f(int x);\n' '/** \\param y b */\nint f(int x);\n' "$cc" -Weverything -Werror
+    line_change "a comment" '/** a */\nint f(int x);\n' '/** \\param y b */\nint f(int x);\n' "$cc" -Werror=documentation
+    line_change "a comment" "$pragma/** a */\nint f(int x);\n" "$pragma/** \\\\param y b */\nint f(int x);\n" "$cc"
+    body='template <class T> const char *name(T) { return __PRETTY_FUNCTION__; }\n'
+    line_change "a column" "${body}const char *f() { /*a*/ auto l = [] {}; return name(l); }\n" \
+        "${body}const char *f() { /*abc*/ auto l = [] {}; return name(l); }\n" "$cc" -x c++ -w -O2
+    body='int g(const char *, const char *, int = __builtin_LINE());\n#define LOG(x, y) g(x, y)\nvoid f() {\n'
+    line_change "a line" "$body LOG(\"a\",\n \"b\");\n}\n" "$body LOG(\"a\", \"b\");\n\n}\n" "$cc" -x c++ -w -O2
+    line_change "a place of bitcode" '/*a*/\nint f(int x) {\n __asm__("nop");\n return x;\n}\n' \
+        '/*abc*/\nint f(int x) {\n __asm__("nop");\n return x;\n}\n' "$cc" -flto
 }
 
 lines() {
@@ -96,6 +140,7 @@ lines() {
     sed -i 's#/\* three \*/#/* four */#' lines.c
     GULMAAT_AUDIT=0 GULMAAT_SLOPPINESS=lines "$host" "$cc" -g -c lines.c -o it.o
     is "$cc: lines don't count" since 1 1
+    line_changes "$cc"
     cd "$work" || return
 }
 

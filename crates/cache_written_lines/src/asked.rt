@@ -38,11 +38,42 @@ const OF_CONTENTS: [&str; 1] = ["-fcoverage-mapping"];
 /// What words begin with that hand something on to other programs.
 const HANDED_ON: [&str; 3] = ["-Wa,", "-Wl,", "-Wp,"];
 
-/// Words under which Clang reads comments.
-const OF_COMMENTS: [&str; 2] = ["-Wdocumentation", "-fparse-all-comments"];
+/// What words begin with under which Clang reads comments.
+const OF_COMMENTS: [&str; 4] = [
+    "-Wdocumentation",
+    "-Werror=documentation",
+    "-Weverything",
+    "-fparse-all-comments",
+];
+
+/// What a text has in it where a pragma has Clang read comments.
+const OF_COMMENTS_BY_PRAGMA: [&str; 2] = ["\"-Wdocumentation", "\"-Weverything"];
+
+/// What words begin with under which Clang's object has the places of what assemblers read, by bytes of a file.
+const OF_PLACES: [&str; 1] = ["-flto"];
 
 /// What a text has in it that asks for a column.
 const OF_COLUMNS: [&str; 2] = ["__builtin_COLUMN", "source_location"];
+
+/// What has Clang write a column too, or a line that its text doesn't tell.
+const OF_COLUMNS_BY_CLANG: [&str; 3] = [
+    "__PRETTY_FUNCTION__",
+    "__builtin_dump_struct",
+    "__builtin_LINE",
+];
+
+/// What a text has in it where a pragma turns a warning on.
+const OF_PRAGMAS: [&str; 3] = ["diagnostic error", "diagnostic fatal", "diagnostic warning"];
+
+/// Whether one of these words is in a text.
+fn has_any(text: &[u8], words: &[&str]) -> bool {
+    for word in words {
+        if memmem::find(text, word.as_bytes()).is_some() {
+            return true;
+        }
+    }
+    false
+}
 
 /// Whether the word begins with one of these.
 fn begins_with(word: &[u8], fronts: &[&str]) -> bool {
@@ -59,12 +90,14 @@ fn is_debug(word: &[u8]) -> bool {
     word.starts_with(b"-g") && !matches!(word, b"-g0")
 }
 
-/// What one word asks for. The debug information of Clang has a digest of each file.
-fn asked_by_word(kind: CCompilerKind, word: &[u8]) -> Asked {
-    let is_clang = kind == CCompilerKind::Clang;
-    if is_clang && (is_debug(word) || begins_with(word, &OF_COMMENTS))
-        || begins_with(word, &OF_CONTENTS)
-    {
+/// Whether Clang's object or messages hang on all bytes of its sources under a word. Its debug information has a digest of each file.
+fn asks_clang_for_contents(word: &[u8]) -> bool {
+    is_debug(word) || begins_with(word, &OF_COMMENTS) || begins_with(word, &OF_PLACES)
+}
+
+/// What one word asks for.
+fn asked_by_word(is_clang: bool, word: &[u8]) -> Asked {
+    if is_clang && asks_clang_for_contents(word) || begins_with(word, &OF_CONTENTS) {
         return Asked::Contents;
     }
     if begins_with(word, &HANDED_ON) {
@@ -76,14 +109,15 @@ fn asked_by_word(kind: CCompilerKind, word: &[u8]) -> Asked {
     Asked::Nothing
 }
 
-/// Whether a text asks for a column.
-fn asks_for_column(text: &[u8]) -> bool {
-    for word in &OF_COLUMNS {
-        if memmem::find(text, word.as_bytes()).is_some() {
-            return true;
-        }
+/// What a text asks for.
+fn asked_by_text(is_clang: bool, text: &[u8]) -> Asked {
+    if has_any(text, &OF_COLUMNS)
+        || has_any(text, &OF_PRAGMAS)
+        || is_clang && has_any(text, &OF_COLUMNS_BY_CLANG)
+    {
+        return Asked::Lines;
     }
-    false
+    Asked::Nothing
 }
 
 impl Asked {
@@ -96,15 +130,28 @@ impl Asked {
         }
     }
 
+    /// What these words ask for. Some of Clang's warnings that hang on macros are on with no word, unless all are off.
+    fn by_words(is_clang: bool, words: &[OsBytes]) -> Asked {
+        let mut asked = Asked::Nothing;
+        let mut warns = is_clang;
+        for word in words {
+            let word = word.as_bytes();
+            warns = warns && !matches!(word, b"-w");
+            asked = asked.and(asked_by_word(is_clang, word));
+        }
+        match warns {
+            true => asked.and(Asked::Lines),
+            false => asked,
+        }
+    }
+
     /// What a command to a compiler of that kind with these words asks for, whose text this is.
     pub fn by(kind: CCompilerKind, words: &[OsBytes], text: &[u8]) -> Asked {
-        let mut asked = Asked::Nothing;
-        for word in words {
-            asked = asked.and(asked_by_word(kind, word.as_bytes()));
-        }
-        match asked {
-            Asked::Nothing if asks_for_column(text) => Asked::Lines,
-            _ => asked,
+        let is_clang = matches!(kind, CCompilerKind::Clang);
+        match Asked::by_words(is_clang, words) {
+            Asked::Nothing => asked_by_text(is_clang, text),
+            Asked::Lines if is_clang && has_any(text, &OF_COMMENTS_BY_PRAGMA) => Asked::Contents,
+            asked => asked,
         }
     }
 }
