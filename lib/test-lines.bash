@@ -78,8 +78,8 @@ line_changes() {
     line_change "a warning by a pragma" "$pragma$body a = 1;\n        b = 2;\n return a + b;\n}\n" \
         "$pragma$body\ta = 1;\n        b = 2;\n return a + b;\n}\n" "$cc"
     [ "$cc" != gcc ] || {
-        line_change "paths of the analyzer" 'int f(void) {\n int *p = __builtin_malloc(4);\n *p = 1;\n return *p;\n}\n' \
-            'int f(void) {\n int *p = __builtin_malloc(8);\n if (p) __builtin_free(p);\n return *p;\n}\n' "$cc" -fanalyzer
+        body='#include <stdio.h>\nstatic int g(int x) { return x; }\nint f(int x) { int z; if (x = 1) printf("%s", x); '
+        line_change "paths of the analyzer" "$body return g(x) + z; }\n" "$body return g(z) + z; }\n" "$cc" -fanalyzer
         return
     }
     line_change "a macro" '#define EQ x == 1\nint f(int x) {\n EQ;\n return x;\n}\n' \
