@@ -1,12 +1,12 @@
 //! Files that are loaded from the disk, and those that a text names.
 
 use crate::headers::look_up_shared;
-use crate::tokens::{Tokens, has_any, is_settled, token_of};
+use crate::tokens::{Tokens, is_settled, token_of};
 use base_files::{FileTime, Files as CallFiles, Metadata, OsBytes, join};
 use base_snapshots::{LoadedFile, SnapshotFiles};
 use cache_disk::{read_of_size, time_of};
 use cache_host::{CommandLine, HostError, into_text};
-use cache_written_lines::{Lying, NamedFile, NamedFiles, reads_as_file};
+use cache_written_lines::{Lying, NamedFile, NamedFiles, has_any, reads_as_file};
 use memchr::memmem;
 use std::alloc::Global;
 use std::fs;

@@ -6,6 +6,7 @@ use base_files::{FileTime, OsBytes};
 use base_formats::{put_framed, read_framed};
 use cache_disk::State;
 use cache_watch_lists::TrustedDevices;
+use cache_written_lines::has_any;
 use ckeys_base::Digest;
 use memchr::memmem;
 use std::alloc::{AllocError, Global};
@@ -32,16 +33,6 @@ const COARSE: i64 = 2;
 /// Whether the text is in these contents.
 fn has(contents: &[u8], text: &str) -> bool {
     memmem::find(contents, text.as_bytes()).is_some()
-}
-
-/// Whether one of these texts is in these contents.
-pub(crate) fn has_any(contents: &[u8], texts: &[&str]) -> bool {
-    for text in texts {
-        if has(contents, text) {
-            return true;
-        }
-    }
-    false
 }
 
 /// The token of these contents. None where they look like one.

@@ -66,7 +66,7 @@ const OF_COLUMNS_BY_CLANG: [&str; 3] = [
 const OF_PRAGMAS: [&str; 3] = ["diagnostic error", "diagnostic fatal", "diagnostic warning"];
 
 /// Whether one of these words is in a text.
-fn has_any(text: &[u8], words: &[&str]) -> bool {
+pub fn has_any(text: &[u8], words: &[&str]) -> bool {
     for word in words {
         if memmem::find(text, word.as_bytes()).is_some() {
             return true;
