@@ -45,10 +45,13 @@ line_call() {
 }
 # Each of these words, after a change by which so many are compiled anew: without debug information and warnings, and with them.
 line_calls() {
-    local cc=$1 name=$2 bare=$3 others=$4
+    local cc=$1 name=$2 bare=$3 others=$4 quiet=-O1
     # Clang has warnings that hang on lines, unless all are off.
-    line_call "$name" "$bare" "$cc" -O1 "$([ "$cc" = gcc ] && echo -O1 || echo -w)"
-    [ "$cc" = gcc ] || line_call "$name" "$others" "$cc" -O1
+    [ "$cc" = gcc ] || {
+        line_call "$name" "$others" "$cc" -O1
+        quiet="-O1 -w"
+    }
+    line_call "$name" "$bare" "$cc" $quiet
     line_call "$name" "$others" "$cc" -g
     line_call "$name" "$others" "$cc" -Wall -Wextra
     line_call "$name" "$others" "$cc" -fsanitize=undefined
