@@ -1,11 +1,12 @@
 //! What differed at the last call with the same outputs that was compiled from the one before it.
 
+use crate::part_files::{name_of_parts, parts_under, put_parts};
+use crate::parts::{kept_parts, parts_of};
+use crate::short_text::{TextDifference, short_text};
 use base_files::{Files as CallFiles, Listed, OsBytes};
 use base_snapshots::SnapshotFiles;
 use cache_c_requests::kind_of;
 use cache_dir::{CacheDir, make_room};
-use cache_files::short_text::{TextDifference, short_text};
-use cache_files::{kept_parts, name_of_parts, parts_of, parts_under, put_parts};
 use cache_format::KeptParts;
 use cache_host::{CommandLine, HostError, difference_of_additions};
 use cache_known_options::beside_of;

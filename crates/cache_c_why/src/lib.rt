@@ -2,5 +2,8 @@
 #![tactic(auto)]
 
 mod fingerprints;
+mod part_files;
+mod parts;
+mod short_text;
 
 pub use fingerprints::{note_fingerprint, why_of_c};

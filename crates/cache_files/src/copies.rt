@@ -1,4 +1,4 @@
-//! Copies of lists, item by item.
+//! A copy of a list of names, item by item.
 
 ghost use Rattle.std.specs.Prelude.{◌≡◌, IfOk};
 
@@ -7,10 +7,7 @@ use ckeys_records::output_name::OutputName;
 use std::alloc::{AllocError, Global};
 
 /// Another list of the same names.
-pub(crate) fn copied_names(
-    alloc: Global,
-    names: &[OutputName],
-) -> Result<Listed<OutputName>, AllocError>
+pub fn copied_names(alloc: Global, names: &[OutputName]) -> Result<Listed<OutputName>, AllocError>
     ensures { IfOk result (λ copy. copy ≡ names.now) }
 {
     let mut copy = Listed::new(alloc);
@@ -18,21 +15,6 @@ pub(crate) fn copied_names(
         let name = output.name.clone()?;
         let optional = output.optional;
         copy.push(OutputName { name, optional })?;
-    }
-    Ok(copy)
-}
-
-/// Another list of the same variables.
-pub(crate) fn copied_variables(
-    alloc: Global,
-    variables: &[(OsBytes, OsBytes)],
-) -> Result<Listed<(OsBytes, OsBytes)>, AllocError>
-    ensures { IfOk result (λ copy. copy ≡ variables.now) }
-{
-    let mut copy = Listed::new(alloc);
-    for variable in variables {
-        let name = variable.0.clone()?;
-        copy.push((name, variable.1.clone()?))?;
     }
     Ok(copy)
 }

@@ -133,7 +133,7 @@ fn name_ahead(lines: &[u8]) -> Option<&[u8]> {
 }
 
 /// The text in short. It takes the time of reading it some times.
-pub fn short_text(alloc: Global, text: &[u8]) -> Result<OsBytes, AllocError> {
+pub(crate) fn short_text(alloc: Global, text: &[u8]) -> Result<OsBytes, AllocError> {
     let mut files = TextFiles::new(alloc);
     let mut name: &[u8] = &[];
     let mut rest = text;
@@ -183,7 +183,7 @@ fn first_name<'a>(text: &'a [u8], others: &HashSet<&[u8]>) -> Option<&'a [u8]> {
 
 /// Where a text in short differs from an earlier one.
 #[derive(Drop)]
-pub struct TextDifference<'a> {
+pub(crate) struct TextDifference<'a> {
     /// The first file whose lines aren't those that it had earlier, or else the first one that isn't there any more; none where files come
     /// in another order.
     name: Option<&'a [u8]>,

@@ -1,16 +1,31 @@
 //! Of what the key of a compiled call was made, as a session has it and as it lies on a disk.
 
 ghost use Rattle.std.specs.Prelude.{◌≡◌, IfOk};
-ghost use Rattle.cache_files.specs.Parts.{parts_in};
+ghost use Rattle.cache_c_why.specs.Parts.{parts_in};
 
-use crate::copies::{copied_names, copied_variables};
-use base_files::OsBytes;
+use base_files::{Listed, OsBytes};
+use cache_files::copied_names;
 use cache_format::KeptParts;
 use std::alloc::{AllocError, Global};
 use wrap_fingerprints::CParts;
 
+/// Another list of the same variables.
+fn copied_variables(
+    alloc: Global,
+    variables: &[(OsBytes, OsBytes)],
+) -> Result<Listed<(OsBytes, OsBytes)>, AllocError>
+    ensures { IfOk result (λ copy. copy ≡ variables.now) }
+{
+    let mut copy = Listed::new(alloc);
+    for variable in variables {
+        let name = variable.0.clone()?;
+        copy.push((name, variable.1.clone()?))?;
+    }
+    Ok(copy)
+}
+
 /// The parts as they are kept, with what differed.
-pub fn kept_parts(
+pub(crate) fn kept_parts(
     alloc: Global,
     parts: &CParts,
     difference: OsBytes,
@@ -34,7 +49,7 @@ pub fn kept_parts(
 }
 
 /// The parts that are kept so.
-pub fn parts_of(kept: KeptParts) -> CParts
+pub(crate) fn parts_of(kept: KeptParts) -> CParts
     ensures { result ≡ parts_in kept }
 {
     let KeptParts {

@@ -10,7 +10,7 @@ use std::alloc::{AllocError, Global};
 use std::rt::Files;
 
 /// The name under which the parts lie of the last call in this folder that asked for outputs at these paths, as they were written.
-pub fn name_of_parts(
+pub(crate) fn name_of_parts(
     alloc: Global,
     dir: &OsBytes,
     outputs: &[(OsBytes, ArtifactDescriptor)],
@@ -24,7 +24,7 @@ pub fn name_of_parts(
 }
 
 /// Puts the parts of a call in the place of those that have this name.
-pub fn put_parts<R: Files + AllocGlobal>(
+pub(crate) fn put_parts<R: Files + AllocGlobal>(
     rt: &R,
     folder: &CacheDir,
     name: &str,
@@ -35,7 +35,7 @@ pub fn put_parts<R: Files + AllocGlobal>(
 }
 
 /// The parts of this name, if there are some.
-pub fn parts_under<R: Files + AllocGlobal>(
+pub(crate) fn parts_under<R: Files + AllocGlobal>(
     rt: &R,
     folder: &CacheDir,
     name: &str,

@@ -1,6 +1,6 @@
 use Rattle.std.proofs.Common.{◌≡◌, rules}
 use Rattle.std.specs.List.{each_same}
-use Rattle.cache_files.proofs.parts.kept_parts.Goals as goal
+use Rattle.cache_c_why.proofs.parts.kept_parts.Goals as goal
 
 pub returns-clause-parts : goal.returns-clause-parts
 returns-clause-parts c =
