@@ -46,8 +46,11 @@ const OF_COMMENTS: [&str; 4] = [
     "-fparse-all-comments",
 ];
 
-/// What a text has in it where a pragma has Clang read comments.
-const OF_COMMENTS_BY_PRAGMA: [&str; 2] = ["\"-Wdocumentation", "\"-Weverything"];
+/// What the name of a warning in a pragma begins with.
+const OF_WARNINGS: &[u8] = b"\"-W";
+
+/// What comes after that where a pragma has Clang read comments.
+const OF_COMMENTS_BY_PRAGMA: [&str; 2] = ["documentation", "everything"];
 
 /// What words begin with under which Clang's object has the places of what assemblers read, by bytes of a file.
 const OF_PLACES: [&str; 1] = ["-flto"];
@@ -62,8 +65,11 @@ const OF_COLUMNS_BY_CLANG: [&str; 3] = [
     "__builtin_LINE",
 ];
 
-/// What a text has in it where a pragma turns a warning on.
-const OF_PRAGMAS: [&str; 3] = ["diagnostic error", "diagnostic fatal", "diagnostic warning"];
+/// What a pragma on a warning has in it.
+const OF_PRAGMAS: &[u8] = b"diagnostic ";
+
+/// What comes after that where the pragma turns the warning on.
+const TURNED_ON: [&str; 3] = ["error", "fatal", "warning"];
 
 /// Whether one of these words is in a text.
 pub fn has_any(text: &[u8], words: &[&str]) -> bool {
@@ -75,10 +81,21 @@ pub fn has_any(text: &[u8], words: &[&str]) -> bool {
     false
 }
 
-/// Whether the word begins with one of these.
-fn begins_with(word: &[u8], fronts: &[&str]) -> bool {
+/// Whether the bytes begin with one of these.
+fn begins_with(bytes: &[u8], fronts: &[&str]) -> bool {
     for front in fronts {
-        if word.starts_with(front.as_bytes()) {
+        if bytes.starts_with(front.as_bytes()) {
+            return true;
+        }
+    }
+    false
+}
+
+/// Whether one of these words comes right after that front somewhere in a text. The text is searched once.
+fn has_after(text: &[u8], front: &[u8], words: &[&str]) -> bool {
+    for at in memmem::find_iter(text, front) {
+        let after = text.get(at.saturating_add(front.len())..).unwrap_or(&[]);
+        if begins_with(after, words) {
             return true;
         }
     }
@@ -112,7 +129,7 @@ fn asked_by_word(is_clang: bool, word: &[u8]) -> Asked {
 /// What a text asks for.
 fn asked_by_text(is_clang: bool, text: &[u8]) -> Asked {
     if has_any(text, &OF_COLUMNS)
-        || has_any(text, &OF_PRAGMAS)
+        || has_after(text, OF_PRAGMAS, &TURNED_ON)
         || is_clang && has_any(text, &OF_COLUMNS_BY_CLANG)
     {
         return Asked::Lines;
@@ -150,7 +167,9 @@ impl Asked {
         let is_clang = matches!(kind, CCompilerKind::Clang);
         match Asked::by_words(is_clang, words) {
             Asked::Nothing => asked_by_text(is_clang, text),
-            Asked::Lines if is_clang && has_any(text, &OF_COMMENTS_BY_PRAGMA) => Asked::Contents,
+            Asked::Lines if is_clang && has_after(text, OF_WARNINGS, &OF_COMMENTS_BY_PRAGMA) => {
+                Asked::Contents
+            }
             asked => asked,
         }
     }
