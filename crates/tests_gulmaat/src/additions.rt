@@ -1,10 +1,11 @@
 //! Rows that are bound to keys: their layout, and where two lists of them differ.
 
+use crate::rows::{Question, Row, are_answered, cut};
 use base_files::OsBytes;
 use cache_host::{ADDITIONS_VARIABLE, Additions, HostError, difference_of_additions};
 use std::alloc::Global;
 use std::test::Fail;
-use tests_kit::{holds, is_that};
+use tests_kit::holds;
 
 /// The bytes of two rows, `a` with `1` and `b` with nothing.
 const ROWS: [u8; 43] = [
@@ -12,10 +13,18 @@ const ROWS: [u8; 43] = [
     0, 0, 0, 0, b'b', 0, 0, 0, 0, 0, 0, 0, 0,
 ];
 
-/// The variable of these rows.
-fn variable_of(alloc: Global, rows: &[(&str, &str)]) -> Result<(OsBytes, OsBytes), HostError> {
+/// The variable of rows as `NAME=VALUE`, with spaces between.
+fn variable_of(alloc: Global, rows: &str) -> Result<(OsBytes, OsBytes), HostError> {
     let mut additions = Additions::new(alloc);
-    for (name, value) in rows {
+    let mut rest = rows;
+    // Each turn takes a byte at least.
+    for _ in 0..rows.len() {
+        if rest.is_empty() {
+            break;
+        }
+        let (row, after) = cut(rest, " ");
+        rest = after;
+        let (name, value) = cut(row, "=");
         additions.add(alloc, name, value.as_bytes())?;
     }
     additions.variable(alloc)
@@ -23,64 +32,55 @@ fn variable_of(alloc: Global, rows: &[(&str, &str)]) -> Result<(OsBytes, OsBytes
 
 #[test]
 fn rows_have_a_layout(rt: HostRuntime) -> Result<(), Fail> {
-    let Ok((name, value)) = variable_of(rt.alloc(), &[("a", "1"), ("b", "")]) else {
+    let Ok((name, value)) = variable_of(rt.alloc(), "a=1 b=") else {
         return Err("no variable".into());
     };
-    holds(
-        name.as_bytes() == ADDITIONS_VARIABLE.as_bytes(),
-        "the variable's name",
-    )?;
-    holds(value.as_bytes() == ROWS.as_slice(), "the layout of rows")
+    let is_named = name.as_bytes() == ADDITIONS_VARIABLE.as_bytes();
+    let has_layout = value.as_bytes() == ROWS.as_slice();
+    drop(name);
+    drop(value);
+    holds(is_named, "the variable's name")?;
+    holds(has_layout, "the layout of rows")
+}
+
+/// A list of the variable of rows alone.
+fn variables_of(alloc: Global, rows: &str) -> Result<Vec<(OsBytes, OsBytes)>, HostError> {
+    let mut variables = Vec::new(alloc);
+    variables.push(variable_of(alloc, rows)?)?;
+    Ok(variables)
 }
 
 /// The first row in which these rows differ from the earlier ones, as text.
-fn difference_of(
-    alloc: Global,
-    rows: &[(&str, &str)],
-    earlier: &[(&str, &str)],
-) -> Result<String, HostError> {
-    let mut here = Vec::new(alloc);
-    here.push(variable_of(alloc, rows)?)?;
-    let mut there = Vec::new(alloc);
-    there.push(variable_of(alloc, earlier)?)?;
-    match difference_of_additions(alloc, here.as_slice(), there.as_slice())? {
-        Some(text) => Ok(text),
-        None => Ok(String::new(alloc)),
+fn difference_of(alloc: Global, rows: &str, earlier: &str) -> Result<Option<String>, HostError> {
+    let here = variables_of(alloc, rows)?;
+    let there = variables_of(alloc, earlier)?;
+    difference_of_additions(alloc, here.as_slice(), there.as_slice())
+}
+
+/// Rows, earlier ones, and what is said of them.
+const DIFFERENCES: &str = r#"
+ =>
+a=1 | a=1 =>
+a=2 | a=1 => a: 2, earlier 1
+a=1 b=2 | a=1 => b: 2, earlier none
+a=1 | a=1 b=2 => b: none, earlier 2
+b=2 | a=1 b=2 => a: none, earlier 1
+"#;
+
+/// Where rows differ from earlier ones.
+struct Difference;
+
+impl<R: AllocGlobal> Question<R> for Difference {
+    fn answer(&self, rt: &R, row: &Row<'_>) -> Result<String, Fail> {
+        match difference_of(rt.alloc(), row.first, row.second) {
+            Ok(Some(text)) => Ok(text),
+            Ok(None) => Ok(String::new(rt.alloc())),
+            Err(_) => Err("rows that can't be compared".into()),
+        }
     }
 }
 
-/// Rows of a name and a value.
-type Rows = &'static [(&'static str, &'static str)];
-
-/// Rows, earlier ones, and what is said of them.
-const DIFFERENCES: [(Rows, Rows, &str); 6] = [
-    (&[], &[], ""),
-    (&[("a", "1")], &[("a", "1")], ""),
-    (&[("a", "2")], &[("a", "1")], "a: 2, earlier 1"),
-    (
-        &[("a", "1"), ("b", "2")],
-        &[("a", "1")],
-        "b: 2, earlier none",
-    ),
-    (
-        &[("a", "1")],
-        &[("a", "1"), ("b", "2")],
-        "b: none, earlier 2",
-    ),
-    (
-        &[("b", "2")],
-        &[("a", "1"), ("b", "2")],
-        "a: none, earlier 1",
-    ),
-];
-
 #[test]
 fn rows_differ(rt: HostRuntime) -> Result<(), Fail> {
-    for (rows, earlier, want) in DIFFERENCES.iter() {
-        match difference_of(rt.alloc(), rows, earlier) {
-            Ok(text) => is_that(text.as_str(), want, want)?,
-            Err(_) => return Err("rows that can't be compared".into()),
-        }
-    }
-    Ok(())
+    are_answered(&rt, DIFFERENCES, &Difference)
 }

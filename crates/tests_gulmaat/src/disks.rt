@@ -1,5 +1,7 @@
 //! Files and folders that tests make and change, by rows: each test has a folder of its own.
 
+use crate::rows::cut;
+use base_files::OsBytes;
 use base_formats::{put_framed, put_number};
 use cache_host::CommandLine;
 use std::alloc::{Alloc, AllocError, Global};
@@ -7,12 +9,15 @@ use std::fs;
 use std::rt::Files;
 use std::test::Fail;
 use std::time::UNIX_EPOCH;
+use tests_kit::words;
 
 /// Makes a folder of that name, without anything in it.
 pub fn make_fresh<R: Files + Alloc>(rt: &R, folder: &str) -> Result<(), Fail> {
     let _ = fs::remove_dir_all(rt, folder);
-    fs::create_dir(rt, folder)?;
-    Ok(())
+    match fs::create_dir(rt, folder) {
+        Ok(()) => Ok(()),
+        Err(_) => Err("no folder".into()),
+    }
 }
 
 /// Does at a path what a verb says, with that text.
@@ -22,68 +27,66 @@ fn change_at<R: Files + AllocGlobal>(
     path: &str,
     text: &str,
 ) -> Result<(), Fail> {
-    match verb {
-        "folder" => fs::create_dir(rt, path)?,
-        "write" => fs::write(rt, path, text.as_bytes())?,
-        "link" => std::os::unix::fs::symlink(rt, text, path)?,
-        "remove" => fs::remove_file(rt, path)?,
-        "unfold" => fs::remove_dir(rt, path)?,
-        _ => {}
-    }
-    Ok(())
+    let done = match verb {
+        "folder" => fs::create_dir(rt, path),
+        "write" => fs::write(rt, path, text.as_bytes()),
+        "link" => std::os::unix::fs::symlink(rt, text, path),
+        "remove" => fs::remove_file(rt, path),
+        "unfold" => fs::remove_dir(rt, path),
+        _ => Ok(()),
+    };
+    Ok(done?)
 }
 
 /// Does in a folder what a row says: `folder PATH`, `write PATH TEXT`, `link PATH TO`, `remove PATH` or `unfold PATH`; nothing where it is empty.
 pub fn change<R: Files + AllocGlobal>(rt: &R, folder: &str, row: &str) -> Result<(), Fail> {
-    let mut words = row.split(' ');
-    let verb = words.next().unwrap_or("");
-    let path = words.next().unwrap_or("");
-    let text = words.next().unwrap_or("");
+    let (verb, rest) = cut(row, " ");
+    let (path, text) = cut(rest, " ");
     let path = format!(in rt.alloc(); "{folder}/{path}")?;
     change_at(rt, verb, path.as_str(), text)
 }
 
-/// Does what all of these rows say.
-pub fn change_all<R: Files + AllocGlobal>(rt: &R, folder: &str, rows: &[&str]) -> Result<(), Fail> {
-    for row in rows {
+/// Does what all of these rows say, each a line.
+pub fn change_all<R: Files + AllocGlobal>(rt: &R, folder: &str, rows: &str) -> Result<(), Fail> {
+    for row in rows.lines() {
         change(rt, folder, row)?;
     }
     Ok(())
 }
 
-/// Adds the message by which a host asks about these words in a folder, where things are kept there.
-fn put_message(
-    message: &mut Vec<u8>,
-    kept: &str,
-    dir: &str,
-    words: &str,
-) -> Result<(), AllocError> {
-    for field in &[
-        kept,
-        "text",
-        "errors",
-        "printed",
-        "list",
-        "own",
-        "/usr/bin/gcc",
-        dir,
-    ] {
-        put_framed(message, field.as_bytes())?;
-    }
-    let count = words.split(' ').count();
-    put_number(message, count as u64)?;
-    for word in words.split(' ') {
+/// Adds the number of these words, and each of them.
+fn put_words(message: &mut Vec<u8>, list: &[OsBytes]) -> Result<(), AllocError> {
+    put_number(message, list.len() as u64)?;
+    for word in list {
         put_framed(message, word.as_bytes())?;
     }
+    Ok(())
+}
+
+/// Adds each line.
+fn put_lines(message: &mut Vec<u8>, lines: &str) -> Result<(), AllocError> {
+    for line in lines.lines() {
+        put_framed(message, line.as_bytes())?;
+    }
+    Ok(())
+}
+
+/// Adds a message to a host: lines of where things are kept, the compiler and the folder of the call, its words, and no variables.
+fn put_message(message: &mut Vec<u8>, lines: &str, list: &[OsBytes]) -> Result<(), AllocError> {
+    put_lines(message, lines)?;
+    put_words(message, list)?;
     put_number(message, 0)?;
     put_framed(message, b"UTC0")
 }
 
-/// That message, where things are kept in the folder's own folder `kept`.
-fn message_of(alloc: Global, dir: &str, words: &str) -> Result<Vec<u8>, AllocError> {
-    let kept = format!(in alloc; "{dir}/kept")?;
+/// The message by which a host asks about these words in a folder, where things are kept in the folder's own folder `kept`.
+fn message_of(alloc: Global, dir: &str, line: &str) -> Result<Vec<u8>, AllocError> {
+    let lines = format!(in alloc;
+        "{dir}/kept\ntext\nerrors\nprinted\nlist\nown\n/usr/bin/gcc\n{dir}\n"
+    )?;
+    let list = words(alloc, line)?;
     let mut message = Vec::new(alloc);
-    put_message(&mut message, kept.as_str(), dir, words)?;
+    put_message(&mut message, lines.as_str(), list.as_slice())?;
     Ok(message)
 }
 

@@ -21,6 +21,8 @@ mod mapped;
 #[cfg(test)]
 mod passing;
 #[cfg(test)]
+mod rows;
+#[cfg(test)]
 mod searches;
 #[cfg(test)]
 mod states;

@@ -1,5 +1,6 @@
 //! Lists of what to watch beside a manifest, and manifests that lose results and get them back.
 
+use crate::rows::{Question, Row, are_answered, cut, told};
 use base_files::{FileTime, Listed};
 use base_formats::{put_framed, put_number};
 use cache_watch_lists::{WatchedResult, looks_for_result, with_list, with_results_of, without};
@@ -9,10 +10,17 @@ use std::rt::Files;
 use std::test::Fail;
 use tests_kit::{holds, is_that};
 
-/// A manifest with results of these letters: the key of each is its letter 64 times.
-fn record_of(alloc: Global, letters: &[&str]) -> Result<PreprocessorCacheEntry, Fail> {
+/// A manifest with results of these letters, with spaces between: the key of each is its letter 64 times.
+fn record_of(alloc: Global, letters: &str) -> Result<PreprocessorCacheEntry, AllocError> {
     let mut record = PreprocessorCacheEntry::new(alloc);
-    for letter in letters {
+    let mut rest = letters;
+    // Each turn takes a byte at least.
+    for _ in 0..letters.len() {
+        if rest.is_empty() {
+            break;
+        }
+        let (letter, after) = cut(rest, " ");
+        rest = after;
         let key = KeyText::new(letter.repeat(alloc, 64)?);
         record.add_result(key, Listed::new(alloc))?;
     }
@@ -20,11 +28,7 @@ fn record_of(alloc: Global, letters: &[&str]) -> Result<PreprocessorCacheEntry, 
 }
 
 /// The letters of a manifest's results.
-fn letters_of(
-    alloc: Global,
-    record: Result<PreprocessorCacheEntry, AllocError>,
-) -> Result<String, AllocError> {
-    let record = record?;
+fn letters_of(alloc: Global, record: &PreprocessorCacheEntry) -> Result<String, AllocError> {
     let mut letters = String::new(alloc);
     for result in record.results() {
         letters.push_str(result.key.as_str().get(..1).unwrap_or(""))?;
@@ -45,10 +49,10 @@ fn list_for(alloc: Global, folder: &str) -> Result<Vec<u8>, AllocError> {
 fn more_lists(
     alloc: Global,
     lists: &[u8],
-    letters: &[&str],
     letter: &str,
     folder: &str,
-) -> Result<Vec<u8>, Fail> {
+    letters: &str,
+) -> Result<Vec<u8>, AllocError> {
     let key = letter.repeat(alloc, 64)?;
     let list = list_for(alloc, folder)?;
     let record = record_of(alloc, letters)?;
@@ -59,86 +63,113 @@ fn more_lists(
     };
     let more = with_list(alloc, lists, &record, folder.as_bytes(), result);
     drop(record);
-    Ok(more?)
+    more
 }
 
-/// Which results hold for a call in a folder, by their letters. None does where other messages are kept beside it.
-fn holding<R: Files + AllocGlobal>(rt: &R, lists: &[u8], folder: &str) -> Result<String, Fail> {
-    let mut letters = String::new(rt.alloc());
-    for letter in &["a", "b"] {
-        let key = letter.repeat(rt.alloc(), 64)?;
-        let (dir, key) = (folder.as_bytes(), key.as_bytes());
-        let before = FileTime::from_seconds(0);
-        if looks_for_result(rt, dir, lists, key, b"messages", before)?.is_some() {
-            letters.push_str(letter)?;
-        }
-        let other = looks_for_result(rt, dir, lists, key, b"", before)?;
-        holds(other.is_none(), letter)?;
-    }
-    Ok(letters)
+/// Whether a result holds for a call in a folder; it doesn't where other messages are kept beside it.
+fn is_held<R: Files + AllocGlobal>(
+    rt: &R,
+    lists: &[u8],
+    folder: &str,
+    letter: &str,
+) -> Result<bool, Fail> {
+    let key = letter.repeat(rt.alloc(), 64)?;
+    let (dir, key) = (folder.as_bytes(), key.as_bytes());
+    let before = FileTime::from_seconds(0);
+    let found = looks_for_result(rt, dir, lists, key, b"messages", before)?;
+    let other = looks_for_result(rt, dir, lists, key, b"", before)?;
+    holds(other.is_none(), letter)?;
+    Ok(found.is_some())
 }
 
-/// Which result got a list, for a call in which folder, beside which results, and which then hold for calls in `one` and in `two`.
-const LISTS: [(&str, &str, &[&str], &str, &str); 8] = [
-    ("a", "one", &["a", "b"], "a", ""),
-    ("a", "two", &["a", "b"], "a", "a"),
-    ("b", "one", &["a", "b"], "ab", "a"),
-    ("a", "one", &["a", "b"], "ab", "a"),
-    ("b", "two", &["b"], "b", "b"),
-    ("b", "three", &["b"], "b", "b"),
-    ("b", "four", &["b"], "b", "b"),
-    // Four lists of one result are kept: the oldest one goes.
-    ("b", "five", &["b"], "", "b"),
-];
+/// Which of the results `a` and `b` hold for a call in a folder.
+fn holding<R: Files + AllocGlobal>(
+    rt: &R,
+    lists: &[u8],
+    folder: &str,
+) -> Result<&'static str, Fail> {
+    let first = is_held(rt, lists, folder, "a")?;
+    let second = is_held(rt, lists, folder, "b")?;
+    Ok(match (first, second) {
+        (true, true) => "ab",
+        (true, false) => "a",
+        (false, true) => "b",
+        (false, false) => "",
+    })
+}
+
+/// Which result got a list, for a call in which folder, beside which results, and which then hold for calls in `one` and in `two`. Four lists of
+/// one result are kept: the oldest one goes.
+const LISTS: &str = r#"a | one | a b => one [a], two []
+a | two | a b => one [a], two [a]
+b | one | a b => one [ab], two [a]
+a | one | a b => one [ab], two [a]
+b | two | b => one [b], two [b]
+b | three | b => one [b], two [b]
+b | four | b => one [b], two [b]
+b | five | b => one [], two [b]
+"#;
+
+/// Asserts that these lists hold for calls in `one` and in `two` as a row says.
+fn hold_as<R: Files + AllocGlobal>(rt: &R, lists: &[u8], want: &str) -> Result<(), Fail> {
+    let in_one = holding(rt, lists, "one")?;
+    let in_two = holding(rt, lists, "two")?;
+    let text = format!(in rt.alloc(); "one [{in_one}], two [{in_two}]")?;
+    is_that(text.as_str(), want, "lists")
+}
 
 #[test]
 fn results_have_lists(rt: HostRuntime) -> Result<(), Fail> {
     let mut lists = Vec::new(rt.alloc());
-    for (letter, folder, letters, in_one, in_two) in LISTS.iter() {
-        lists = more_lists(rt.alloc(), lists.as_slice(), letters, letter, folder)?;
-        is_that(
-            holding(&rt, lists.as_slice(), "one")?.as_str(),
-            in_one,
-            folder,
-        )?;
-        is_that(
-            holding(&rt, lists.as_slice(), "two")?.as_str(),
-            in_two,
-            folder,
-        )?;
+    for row in LISTS.lines() {
+        let (given, want) = cut(row, " => ");
+        let (letter, given) = cut(given, " | ");
+        let (folder, letters) = cut(given, " | ");
+        lists = more_lists(rt.alloc(), lists.as_slice(), letter, folder, letters)?;
+        hold_as(&rt, lists.as_slice(), want)?;
     }
     Ok(())
+}
+
+/// The results of two manifests.
+fn whole_of(
+    alloc: Global,
+    letters: &str,
+    others: &str,
+) -> Result<PreprocessorCacheEntry, AllocError> {
+    let record = record_of(alloc, letters)?;
+    let other = record_of(alloc, others)?;
+    with_results_of(alloc, &record, &other)
 }
 
 /// The letters of the results of two manifests, without one of them.
-fn joined(alloc: Global, letters: &[&str], others: &[&str], letter: &str) -> Result<String, Fail> {
+fn joined(alloc: Global, letters: &str, others: &str, letter: &str) -> Result<String, AllocError> {
     let key = letter.repeat(alloc, 64)?;
-    let record = record_of(alloc, letters)?;
-    let other = record_of(alloc, others)?;
-    let whole = with_results_of(alloc, &record, &other);
-    drop(record);
-    drop(other);
-    let whole = whole?;
-    let rest = without(alloc, &whole, key.as_bytes());
-    drop(whole);
-    Ok(letters_of(alloc, rest)?)
+    let whole = whole_of(alloc, letters, others)?;
+    let rest = without(alloc, &whole, key.as_bytes())?;
+    letters_of(alloc, &rest)
 }
 
 /// Results of two manifests, one that goes, and those that are left.
-const JOINED: [(&[&str], &[&str], &str, &str); 6] = [
-    (&[], &[], "a", ""),
-    (&["a"], &["b"], "c", "ab"),
-    (&["b"], &["a", "b"], "c", "ab"),
-    (&["c"], &["a", "b"], "d", "abc"),
-    (&["a", "b"], &["c"], "b", "ac"),
-    (&["a"], &[], "a", ""),
-];
+const JOINED: &str = r#"
+ |  | a =>
+a | b | c => ab
+b | a b | c => ab
+c | a b | d => abc
+a b | c | b => ac
+a |  | a =>
+"#;
+
+/// The results that are left.
+struct Left;
+
+impl<R: AllocGlobal> Question<R> for Left {
+    fn answer(&self, rt: &R, row: &Row<'_>) -> Result<String, Fail> {
+        told(joined(rt.alloc(), row.first, row.second, row.third))
+    }
+}
 
 #[test]
 fn results_come_back_and_go(rt: HostRuntime) -> Result<(), Fail> {
-    for (letters, others, letter, want) in JOINED.iter() {
-        let text = joined(rt.alloc(), letters, others, letter)?;
-        is_that(text.as_str(), want, letter)?;
-    }
-    Ok(())
+    are_answered(&rt, JOINED, &Left)
 }

@@ -1,7 +1,8 @@
 //! States of files: tokens that stand for contents, outputs that were made, locks on their paths, devices that are trusted, and since when a file
 //! is the same.
 
-use crate::disks::{change, line_of, make_fresh};
+use crate::disks::{change, change_all, line_of, make_fresh};
+use crate::rows::{Question, Row, are_answered, says, told, yes_or_no};
 use base_files::{FileTime, OsBytes};
 use base_formats::put_framed;
 use cache_dir::digest_of;
@@ -9,53 +10,72 @@ use cache_disk::{State, time_of};
 use cache_host::CommandLine;
 use cache_source_files::{Tokens, lock_paths, made_since, states_of};
 use cache_watch_lists::devices_in;
-use std::alloc::Global;
+use std::alloc::{AllocError, Global};
 use std::fs;
 use std::fs::{File, OpenOptions};
 use std::rt::Files;
 use std::test::Fail;
 use tests_kit::holds;
 
+/// The row of the token `token` for a path, in this state.
+fn row_of(alloc: Global, place: &str, state: State) -> Result<Vec<u8>, AllocError> {
+    let mut row = Vec::new(alloc);
+    put_framed(&mut row, place.as_bytes())?;
+    state.put(&mut row)?;
+    put_framed(&mut row, b"token")?;
+    Ok(row)
+}
+
 /// The token that is noted of a file in its state now.
 fn tokens_of<R: Files + AllocGlobal>(rt: &R, place: &str) -> Result<Tokens, Fail> {
     let alloc = rt.alloc();
-    let mut rows = Vec::new(alloc);
-    put_framed(&mut rows, place.as_bytes())?;
-    State::of(&fs::metadata(rt, place)?).put(&mut rows)?;
-    put_framed(&mut rows, b"token")?;
+    let state = State::of(&fs::metadata(rt, place)?);
+    let row = row_of(alloc, place, state)?;
     let mut tokens = Tokens::new(alloc);
-    tokens.take_rows(alloc, rows.as_slice())?;
+    tokens.take_rows(alloc, row.as_slice())?;
     Ok(tokens)
 }
 
 /// Whether these tokens know a file as it is now.
 fn knows<R: Files + AllocGlobal>(rt: &R, tokens: &Tokens, place: &str) -> Result<bool, Fail> {
-    let path = OsBytes::from_slice(rt.alloc(), place.as_bytes())?;
     let metadata = fs::metadata(rt, place)?;
-    let token = tokens.get(&path, &metadata);
-    Ok(token.is_some_and(|token| token.as_bytes() == b"token".as_slice()))
+    let path = OsBytes::from_slice(rt.alloc(), place.as_bytes())?;
+    match tokens.get(&path, &metadata) {
+        Some(token) => Ok(token.as_bytes() == b"token".as_slice()),
+        None => Ok(false),
+    }
 }
 
-/// Asserts that these tokens of `a.h` know it, and neither another file nor a changed one.
-fn know_a_state<R: Files + AllocGlobal>(rt: &R, tokens: &Tokens) -> Result<(), Fail> {
-    let place = "gulmaat_tests_tokens/a.h";
-    holds(knows(rt, tokens, place)?, "a file as it was")?;
-    let other = knows(rt, tokens, "gulmaat_tests_tokens/b.h")?;
-    holds(!other, "another file")?;
-    change(rt, "gulmaat_tests_tokens", "write a.h longer")?;
-    holds(!knows(rt, tokens, place)?, "a file that was changed")
+/// What is done in the folder, and whether the tokens of `a.h` then know a file.
+const KNOWN: &str = r#"
+ | gulmaat_tests_tokens/a.h => yes
+ | gulmaat_tests_tokens/b.h => no
+write a.h longer | gulmaat_tests_tokens/a.h => no
+"#;
+
+/// Whether these tokens know a file.
+#[derive(Clone, Copy)]
+struct IsKnown<'a> {
+    tokens: &'a Tokens,
+}
+
+impl<R: Files + AllocGlobal> Question<R> for IsKnown<'_> {
+    fn answer(&self, rt: &R, row: &Row<'_>) -> Result<String, Fail> {
+        change(rt, "gulmaat_tests_tokens", row.first)?;
+        let is_known = knows(rt, self.tokens, row.second)?;
+        yes_or_no(rt.alloc(), is_known)
+    }
 }
 
 #[test]
 fn tokens_are_of_a_state(rt: HostRuntime) -> Result<(), Fail> {
     let folder = "gulmaat_tests_tokens";
     make_fresh(&rt, folder)?;
-    change(&rt, folder, "write a.h one")?;
-    change(&rt, folder, "write b.h one")?;
+    change_all(&rt, folder, "write a.h one\nwrite b.h one")?;
     let tokens = tokens_of(&rt, "gulmaat_tests_tokens/a.h")?;
-    let know = know_a_state(&rt, &tokens);
+    let known = are_answered(&rt, KNOWN, &IsKnown { tokens: &tokens });
     drop(tokens);
-    know
+    known
 }
 
 /// A list of this path alone.
@@ -66,44 +86,47 @@ fn alone(alloc: Global, path: &str) -> Result<Vec<OsBytes>, Fail> {
 }
 
 /// What is done between two looks at `a.o`, and what was made there then.
-const MADE: [(&str, Option<&str>); 7] = [
-    ("", None),
-    ("write a.o one", Some("one")),
-    ("", None),
-    ("write b.o two", None),
-    ("write a.o longer", Some("longer")),
-    ("remove a.o", None),
-    ("folder a.o", None),
-];
+const MADE: &str = r#"
+ => none
+write a.o one => one
+ => none
+write b.o two => none
+write a.o longer => longer
+remove a.o => none
+folder a.o => none
+"#;
 
-/// Whether that was made at a path while that was done.
-fn is_made_while<R: Files + AllocGlobal>(
-    rt: &R,
-    folder: &str,
-    row: &str,
-    want: Option<&str>,
-) -> Result<bool, Fail> {
-    let path = format!(in rt.alloc(); "{folder}/a.o")?;
-    let paths = alone(rt.alloc(), path.as_str())?;
-    let before = states_of(rt, paths.as_slice())?;
-    change(rt, folder, row)?;
-    let Ok(made) = made_since(rt, paths.as_slice(), before.as_slice()) else {
-        return Err("what was made can't be told".into());
-    };
-    match made.as_slice() {
-        [Some(contents)] => Ok(want.is_some_and(|want| contents.as_bytes() == want.as_bytes())),
-        _ => Ok(want.is_none()),
+/// What was made at a path, as text.
+fn text_of_made(alloc: Global, made: &[Option<OsBytes>]) -> Result<String, Fail> {
+    match made {
+        [Some(contents)] => told(format!(in alloc; "{contents}")),
+        _ => says(alloc, "none"),
+    }
+}
+
+/// What was made at a path while a row was done.
+struct MadeWhile;
+
+impl<R: Files + AllocGlobal> Question<R> for MadeWhile {
+    fn answer(&self, rt: &R, row: &Row<'_>) -> Result<String, Fail> {
+        let paths = alone(rt.alloc(), "gulmaat_tests_made/a.o")?;
+        let before = states_of(rt, paths.as_slice())?;
+        let changed = change(rt, "gulmaat_tests_made", row.first);
+        let made = made_since(rt, paths.as_slice(), before.as_slice());
+        drop(before);
+        drop(paths);
+        changed?;
+        match made {
+            Ok(made) => text_of_made(rt.alloc(), made.as_slice()),
+            Err(_) => Err("what was made can't be told".into()),
+        }
     }
 }
 
 #[test]
 fn outputs_are_made(rt: HostRuntime) -> Result<(), Fail> {
-    let folder = "gulmaat_tests_made";
-    make_fresh(&rt, folder)?;
-    for (row, want) in MADE.iter() {
-        holds(is_made_while(&rt, folder, row, *want)?, row)?;
-    }
-    Ok(())
+    make_fresh(&rt, "gulmaat_tests_made")?;
+    are_answered(&rt, MADE, &MadeWhile)
 }
 
 /// The file of the lock of a path, where there is one.
@@ -142,61 +165,75 @@ fn lock_object<R: Files<File = File> + AllocGlobal>(
     Ok(is_held && file.try_lock().is_ok())
 }
 
+/// The path of the file `real/a.o`.
+fn object_in<R: Files + AllocGlobal>(rt: &R, folder: &str) -> Result<String, Fail> {
+    let real = fs::canonicalize(rt, folder)?;
+    told(format!(in rt.alloc(); "{}/real/a.o", real.as_str()))
+}
+
 /// Whether an output of this name has the lock of the file `real/a.o`, as long as it is held.
 fn locks_object<R: Files<File = File> + AllocGlobal>(
     rt: &R,
     folder: &str,
     name: &str,
 ) -> Result<bool, Fail> {
-    let alloc = rt.alloc();
+    let object = object_in(rt, folder)?;
+    let paths = alone(rt.alloc(), name)?;
     let line = line_of(rt, folder, "-c a.c")?;
-    let paths = alone(alloc, name)?;
-    let real = fs::canonicalize(rt, folder)?;
-    let object = format!(in alloc; "{}/real/a.o", real.as_str())?;
     lock_object(rt, folder, &line, paths.as_slice(), object.as_str())
+}
+
+/// Names of outputs, and whether they have the lock of `real/a.o`: another file, the file itself, and the file by a link.
+const LOCKED: &str = r#"
+real/b.o => no
+real/a.o => yes
+linked/a.o => yes
+"#;
+
+/// Whether an output has the lock of the object.
+struct LocksObject;
+
+impl<R: Files<File = File> + AllocGlobal> Question<R> for LocksObject {
+    fn answer(&self, rt: &R, row: &Row<'_>) -> Result<String, Fail> {
+        let locks_object = locks_object(rt, "gulmaat_tests_locks", row.first)?;
+        yes_or_no(rt.alloc(), locks_object)
+    }
 }
 
 #[test]
 fn outputs_are_locked(rt: HostRuntime) -> Result<(), Fail> {
     let folder = "gulmaat_tests_locks";
     make_fresh(&rt, folder)?;
-    change(&rt, folder, "folder real")?;
-    change(&rt, folder, "link linked real")?;
-    holds(
-        !locks_object(&rt, folder, "real/b.o")?,
-        "another file's lock",
-    )?;
-    holds(locks_object(&rt, folder, "real/a.o")?, "a file's lock")?;
-    holds(locks_object(&rt, folder, "linked/a.o")?, "a lock by a link")
+    change_all(&rt, folder, "folder real\nlink linked real")?;
+    are_answered(&rt, LOCKED, &LocksObject)
 }
 
-/// Lines of the list of mounts, as the kernel's manual has them, and the number of the device where its file system is trusted.
-const MOUNTS: [(&str, Option<u64>); 6] = [
-    ("", None),
-    (
-        "36 35 98:0 /mnt1 /mnt2 rw,noatime master:1 - ext3 /dev/root rw,errors=continue",
-        Some(0x6200),
-    ),
-    (
-        "36 35 98:0 /mnt1 /mnt2 rw,noatime - ext4 /dev/root rw",
-        Some(0x6200),
-    ),
-    (
-        "40 35 259:300 / / rw shared:1 master:2 - xfs /dev/nvme rw",
-        Some(0x11_032c),
-    ),
-    ("41 35 0:44 / /home rw - nfs4 server:/home rw", None),
-    ("42 35 0:45 / /mnt rw - squashfs /dev/loop0 ro", None),
-];
+/// Lines of the list of mounts, as the kernel's manual has them, and the number of the device, in hexadecimal, where its file system is trusted.
+const MOUNTS: &str = r#"
+ =>
+36 35 98:0 /mnt1 /mnt2 rw,noatime master:1 - ext3 /dev/root rw,errors=continue => 6200
+36 35 98:0 /mnt1 /mnt2 rw,noatime - ext4 /dev/root rw => 6200
+40 35 259:300 / / rw shared:1 master:2 - xfs /dev/nvme rw => 11032c
+41 35 0:44 / /home rw - nfs4 server:/home rw =>
+42 35 0:45 / /mnt rw - squashfs /dev/loop0 ro =>
+"#;
+
+/// The first trusted device of a list of mounts.
+struct TrustedDevice;
+
+impl<R: AllocGlobal> Question<R> for TrustedDevice {
+    fn answer(&self, rt: &R, row: &Row<'_>) -> Result<String, Fail> {
+        let devices = devices_in(rt.alloc(), row.first.as_bytes())?;
+        match devices.iter().next() {
+            Some(device) => told(format!(in rt.alloc(); "{device:x}")),
+            None => Ok(String::new(rt.alloc())),
+        }
+    }
+}
 
 #[test]
 fn devices_are_trusted(rt: HostRuntime) -> Result<(), Fail> {
-    for (line, want) in MOUNTS.iter() {
-        let devices = devices_in(rt.alloc(), line.as_bytes())?;
-        let first = devices.iter().next().copied();
-        holds(first == *want, line)?;
-    }
-    Ok(())
+    are_answered(&rt, MOUNTS, &TrustedDevice)
 }
 
 /// A moment by its seconds and nanoseconds.

@@ -1,58 +1,58 @@
 //! The variables that compilers read, by GCC's and Clang's manuals.
 
+use crate::rows::{Question, Row, are_answered, yes_or_no};
 use cache_known_options::is_read;
 use std::test::Fail;
-use tests_kit::holds;
 
-/// Those that they read.
-const READ: [&str; 24] = [
-    "LANG",
-    "LC_CTYPE",
-    "LC_MESSAGES",
-    "LC_ALL",
-    "GCC_COMPARE_DEBUG",
-    "GCC_EXEC_PREFIX",
-    "COMPILER_PATH",
-    "LIBRARY_PATH",
-    "CPATH",
-    "C_INCLUDE_PATH",
-    "CPLUS_INCLUDE_PATH",
-    "OBJC_INCLUDE_PATH",
-    "OBJCPLUS_INCLUDE_PATH",
-    "DEPENDENCIES_OUTPUT",
-    "SUNPRO_DEPENDENCIES",
-    "SOURCE_DATE_EPOCH",
-    "GCC_COLORS",
-    "GCC_URLS",
-    "MACOSX_DEPLOYMENT_TARGET",
-    "IPHONEOS_DEPLOYMENT_TARGET",
-    "CCC_OVERRIDE_OPTIONS",
-    "SDKROOT",
-    "PWD",
-    "SCCACHE_C_CUSTOM_CACHE_BUSTER",
-];
+/// Names of variables, and whether compilers read them.
+const VARIABLES: &str = r#"
+LANG => yes
+LC_CTYPE => yes
+LC_MESSAGES => yes
+LC_ALL => yes
+GCC_COMPARE_DEBUG => yes
+GCC_EXEC_PREFIX => yes
+COMPILER_PATH => yes
+LIBRARY_PATH => yes
+CPATH => yes
+C_INCLUDE_PATH => yes
+CPLUS_INCLUDE_PATH => yes
+OBJC_INCLUDE_PATH => yes
+OBJCPLUS_INCLUDE_PATH => yes
+DEPENDENCIES_OUTPUT => yes
+SUNPRO_DEPENDENCIES => yes
+SOURCE_DATE_EPOCH => yes
+GCC_COLORS => yes
+GCC_URLS => yes
+MACOSX_DEPLOYMENT_TARGET => yes
+IPHONEOS_DEPLOYMENT_TARGET => yes
+CCC_OVERRIDE_OPTIONS => yes
+SDKROOT => yes
+PWD => yes
+SCCACHE_C_CUSTOM_CACHE_BUSTER => yes
 
-/// Those that they don't.
-const OTHERS: [&str; 10] = [
-    "",
-    "_",
-    "OLDPWD",
-    "SHLVL",
-    "MAKEFLAGS",
-    "MAKELEVEL",
-    "EDITOR",
-    "SSH_TTY",
-    "lang",
-    "CPATHS",
-];
+ => no
+_ => no
+OLDPWD => no
+SHLVL => no
+MAKEFLAGS => no
+MAKELEVEL => no
+EDITOR => no
+SSH_TTY => no
+lang => no
+CPATHS => no
+"#;
+
+/// Whether compilers read a variable.
+struct IsRead;
+
+impl<R: AllocGlobal> Question<R> for IsRead {
+    fn answer(&self, rt: &R, row: &Row<'_>) -> Result<String, Fail> {
+        yes_or_no(rt.alloc(), is_read(row.first.as_bytes()))
+    }
+}
 
 #[test]
-fn compilers_read_variables(_rt: HostRuntime) -> Result<(), Fail> {
-    for name in READ.iter() {
-        holds(is_read(name.as_bytes()), name)?;
-    }
-    for name in OTHERS.iter() {
-        holds(!is_read(name.as_bytes()), name)?;
-    }
-    Ok(())
+fn compilers_read_variables(rt: HostRuntime) -> Result<(), Fail> {
+    are_answered(&rt, VARIABLES, &IsRead)
 }
