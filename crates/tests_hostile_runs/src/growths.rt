@@ -33,6 +33,8 @@ fn push_refused(turn: &Turn, text: &mut String) -> Result<(), AllocError> {
         text,
     )?;
     push_unless(compiles <= 1, "one compile at most", text)?;
+    let kept = turn.after.records.kept == turn.before.records.kept;
+    push_unless(kept, "no fault where a record is refused", text)?;
     push_unless_kept(turn, text)
 }
 

@@ -1,15 +1,13 @@
 //! Hostile use, for the program `tests_calls`: reads scenarios, a line each, from standard input, and serves each again and again, while
-//! each I/O call fails in turn and while stores forget and refuse. It prints what came of it, and what isn't as it has to be.
+//! each I/O call fails in turn. It prints what came of it, and what isn't as it has to be. What is answered where a store forgets or refuses
+//! is promised by `serve`, for all stores.
 //!
 //! Of each scenario these lines are printed:
 //!
 //! - what each request is answered where nothing fails, and how often a step before the compile and a compile ran:
 //!   `1: fresh obj:22; stored obj:22; preprocesses 2; compiles 1`;
 //! - the faults of the runs in which each call of the files fails in turn, each fault once, and of those in which each of the tool does:
-//!   `files fail: tool preprocess, tool compile,`;
-//! - how often the store of include records and that of outputs are asked, and then, for each run in which one of them drops all at one
-//!   call, or at each, or refuses one pair, or each: `drop at 3: fresh fresh; compiles 2; forgot 1; lost some; holds 1`;
-//! - where the scenario has a capacity, the same of a store of outputs that holds no more.
+//!   `files fail: tool preprocess, tool compile,`.
 //!
 //! In each of these runs a request is answered the outputs of the first run, or the fault of the call that failed, and then its outputs
 //! when it is served again. Where it isn't so, a line says it: `not so: ..`.
@@ -22,14 +20,12 @@
 #![tactic(auto)]
 
 mod answers;
-mod forgetting;
 mod growths;
 mod readings;
 mod refusals;
 mod runs;
 mod stores;
 
-use crate::forgetting::push_forgetting;
 use crate::growths::push_growths;
 use crate::readings::{push_key, push_record};
 use crate::refusals::push_refusals;
@@ -42,7 +38,7 @@ use std::io::{ErrorKind, Read, Write};
 /// What is done with what standard input gives.
 #[derive(Clone, Copy)]
 enum Mode {
-    /// I/O calls of scenarios fail, and stores forget and refuse.
+    /// I/O calls of scenarios fail.
     Devices,
     /// An allocation may be refused.
     Growths,
@@ -142,7 +138,7 @@ fn push_scenario(
     push_devices(alloc, line, text)
 }
 
-/// Adds what came of the runs in which I/O calls fail and stores forget and refuse.
+/// Adds what came of the runs in which I/O calls fail.
 fn push_devices(alloc: Global, line: &[u8], text: &mut String) -> Result<(), Stop> {
     let plain = plain_run(alloc, line, NONE_FAILS)?;
     let pushed = push_beside(alloc, line, &plain, text);
@@ -154,8 +150,7 @@ fn push_devices(alloc: Global, line: &[u8], text: &mut String) -> Result<(), Sto
 fn push_beside(alloc: Global, line: &[u8], plain: &Run, text: &mut String) -> Result<(), Stop> {
     let turns = plain.turns.as_slice();
     push_plain(plain, text)?;
-    push_refusals(alloc, line, turns, text)?;
-    push_forgetting(alloc, line, turns, text)
+    push_refusals(alloc, line, turns, text)
 }
 
 /// Adds what came of the run in which nothing fails.

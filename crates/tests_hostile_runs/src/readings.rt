@@ -2,48 +2,28 @@
 
 use crate::runs::Stop;
 use base_files::Listed;
+use ckeys_base::error::Error;
 use ckeys_include_records::PreprocessorCacheEntry;
-use rustc_parts::parts::{Parts, RShape};
-use rustc_parts::{key_bytes, read_key_bytes};
+use rustc_parts::parts::RShape;
+use rustc_parts::read_key_bytes;
 use std::alloc::{AllocError, Global};
 
-/// Whether the record is written as these bytes; an empty text is the empty record.
-fn is_written_so(
-    alloc: Global,
-    entry: &PreprocessorCacheEntry,
-    bytes: &[u8],
-) -> Result<bool, Stop> {
-    let mut written = Vec::new(alloc);
-    if entry.serialize_to(&mut written).is_err() {
-        return Err(Stop::Memory);
-    }
-    Ok(bytes.is_empty() || written.as_slice() == bytes)
-}
-
-/// Adds how many files a record has that was read of these bytes.
-fn push_entry(
-    alloc: Global,
-    entry: &PreprocessorCacheEntry,
-    bytes: &[u8],
-    text: &mut String,
-) -> Result<(), Stop> {
-    if is_written_so(alloc, entry, bytes)? {
-        writeln!(text, "a record of {} files", entry.number_of_entries())?;
-    } else {
-        text.push_str("not so: a record is written as it was read\n")?;
-    }
-    Ok(())
-}
-
-/// Adds what is read of these bytes as an include record, or why none is.
+/// Adds what is read of these bytes as an include record, or why none is. That it is written as these bytes is promised by `read`.
 pub(crate) fn push_record(alloc: Global, bytes: &[u8], text: &mut String) -> Result<(), Stop> {
-    match PreprocessorCacheEntry::read(alloc, bytes) {
-        Ok(entry) => {
-            let pushed = push_entry(alloc, &entry, bytes, text);
-            drop(entry);
-            pushed
-        }
-        Err(error) => Ok(writeln!(text, "refused: {error}")?),
+    let read = PreprocessorCacheEntry::read(alloc, bytes);
+    let pushed = push_entry(&read, text);
+    drop(read);
+    Ok(pushed?)
+}
+
+/// Adds how many files the record has that was read, or why there is none.
+fn push_entry(
+    read: &Result<PreprocessorCacheEntry, Error>,
+    text: &mut String,
+) -> Result<(), AllocError> {
+    match read {
+        Ok(entry) => writeln!(text, "a record of {} files", entry.number_of_entries()),
+        Err(error) => writeln!(text, "refused: {error}"),
     }
 }
 
@@ -123,30 +103,21 @@ fn shape_of(
     })
 }
 
-/// Adds whether these pieces are written as the bytes, which they were read of.
-fn push_parts(
+/// Adds whether a key's bytes are those of a request's pieces of this shape. That these are written as the bytes is promised by
+/// `read_key_bytes`.
+fn push_read(
     alloc: Global,
-    parts: &Parts,
     bytes: &[u8],
+    shape: &RShape,
     text: &mut String,
 ) -> Result<(), AllocError> {
-    let written = key_bytes(alloc, parts)?;
-    match written.as_slice() == bytes {
-        true => text.push_str("the parts of a request\n"),
-        false => text.push_str("not so: parts are written as they were read\n"),
-    }
-}
-
-/// Adds what is read of a key's bytes under this shape.
-fn push_read(alloc: Global, bytes: &[u8], shape: &RShape, text: &mut String) -> Result<(), Stop> {
-    match read_key_bytes(alloc, bytes, shape)? {
-        Some(parts) => {
-            let pushed = push_parts(alloc, &parts, bytes, text);
-            drop(parts);
-            Ok(pushed?)
-        }
-        None => Ok(text.push_str("no parts\n")?),
-    }
+    let read = read_key_bytes(alloc, bytes, shape)?;
+    let said = match &read {
+        Some(_) => "the parts of a request\n",
+        None => "no parts\n",
+    };
+    drop(read);
+    text.push_str(said)
 }
 
 /// Adds what is read of the bytes after three lines as what is hashed of a request to rustc, under the shape that the lines give.
@@ -157,5 +128,5 @@ pub(crate) fn push_key(alloc: Global, bytes: &[u8], text: &mut String) -> Result
     let shape = shape_of(alloc, counts, words, env_deps)?;
     let pushed = push_read(alloc, rest, &shape, text);
     drop(shape);
-    pushed
+    Ok(pushed?)
 }

@@ -1,9 +1,10 @@
 //! Runs of a scenario in one session: texts and numbers come of them.
 
 use crate::answers::{AnswerTexts, answer_texts};
-use crate::stores::{Seen, Watched, seen_of};
+use crate::stores::{Outputs, Records, Seen, Served, seen_of};
 use base_files::{Files, OsBytes};
 use ckeys::{EntryKey, PreprocessorCacheEntry};
+use ckeys_base::Store;
 use ckeys_records::{KeyConfig, Preprocessor, Step, Ticks};
 use cmdlines::EachKind;
 use sccache_scenarios::{Scenario, ScenarioCall, ScenarioFault, read_scenario};
@@ -16,7 +17,7 @@ use tests_kit::{FailFiles, FailTool};
 use thiserror::Error;
 use wrap::Session;
 use wrap_base::store_key::{Pairs, StoreKey};
-use wrap_base::{MapStore, Request, Tool};
+use wrap_base::{Request, Tool};
 
 /// Why nothing is printed.
 #[derive(Debug, Drop, Error)]
@@ -91,8 +92,6 @@ pub(crate) struct Turn {
     pub(crate) due: Option<String>,
     /// What it was answered when it was served again, after such a failure or after it ran out of memory.
     pub(crate) again: Option<AnswerTexts>,
-    /// How many calls of the files come before the one that fails in a later request.
-    files_left: u64,
 }
 
 /// What a run came to.
@@ -106,8 +105,8 @@ pub(crate) struct Run {
 
 /// What the session answers. Who calls this loads none of what that promises.
 fn served<
-    E: Watched<EntryKey, PreprocessorCacheEntry>,
-    O: Watched<StoreKey, Pairs>,
+    E: Store<EntryKey, PreprocessorCacheEntry> + Drop,
+    O: Store<StoreKey, Pairs> + Drop,
     F: Files,
     T: Tool,
 >(
@@ -124,10 +123,7 @@ fn served<
 }
 
 /// The state of the session and the tool.
-fn state_of<E: Watched<EntryKey, PreprocessorCacheEntry>, O: Watched<StoreKey, Pairs>, T: Tool>(
-    session: &Session<Sha256, E, O>,
-    tool: &FailTool<T>,
-) -> State {
+fn state_of<T: Tool>(session: &Served, tool: &FailTool<T>) -> State {
     State {
         records: seen_of(session.entries()),
         outputs: seen_of(session.objects()),
@@ -154,40 +150,45 @@ fn due_fault(
     Ok(Some(due))
 }
 
+/// Adds the first answer to a request.
+fn push_answer(
+    before: State,
+    after: State,
+    answer: AnswerTexts,
+    turns: &mut Vec<Turn>,
+) -> Result<(), AllocError> {
+    let turn = Turn {
+        before,
+        after,
+        answer,
+        due: None,
+        again: None,
+    };
+    turns.push(turn).map_err(AllocError::from)
+}
+
 /// Serves the request, and serves it again where an I/O call failed or memory ran out.
-fn turn_of<
-    E: Watched<EntryKey, PreprocessorCacheEntry>,
-    O: Watched<StoreKey, Pairs>,
-    F: Files,
-    T: Tool,
->(
+fn push_served<F: Files, T: Tool>(
     alloc: Global,
-    session: &mut Session<Sha256, E, O>,
+    session: &mut Served,
     request: &Request,
     files: &mut FailFiles<F>,
     tool: &mut FailTool<T>,
-) -> Result<Turn, AllocError> {
+    turns: &mut Vec<Turn>,
+) -> Result<(), AllocError> {
     let before = state_of(session, tool);
     let answer = served(alloc, session, request, files, tool)?;
     let after = state_of(session, tool);
+    push_answer(before, after, answer, turns)?;
+    let Some(turn) = turns.last_mut() else {
+        return Ok(());
+    };
     let name = files.failed_name.as_ref();
-    match due_fault(alloc, &before, &after, tool.last_step, name) {
-        Ok(due) => {
-            let turn = Turn {
-                before,
-                after,
-                answer,
-                due,
-                again: None,
-                files_left: files_left(files),
-            };
-            with_again(alloc, turn, session, request, files, tool)
-        }
-        Err(error) => {
-            drop(answer);
-            Err(error)
-        }
+    turn.due = due_fault(alloc, &before, &after, tool.last_step, name)?;
+    if turn.due.is_some() || turn.answer.is_fault("memory") {
+        turn.again = Some(served(alloc, session, request, files, tool)?);
     }
+    Ok(())
 }
 
 /// How many calls of these files come before the one that fails, which no later one does where one has failed.
@@ -199,48 +200,15 @@ fn files_left<F: Files>(files: &FailFiles<F>) -> u64 {
     }
 }
 
-/// The turn with what its request is answered when it is served again, where an I/O call failed or memory ran out.
-fn with_again<
-    E: Watched<EntryKey, PreprocessorCacheEntry>,
-    O: Watched<StoreKey, Pairs>,
-    F: Files,
-    T: Tool,
->(
-    alloc: Global,
-    turn: Turn,
-    session: &mut Session<Sha256, E, O>,
-    request: &Request,
-    files: &mut FailFiles<F>,
-    tool: &mut FailTool<T>,
-) -> Result<Turn, AllocError> {
-    if turn.due.is_none() && !turn.answer.is_fault("memory") {
-        return Ok(turn);
-    }
-    match served(alloc, session, request, files, tool) {
-        Ok(again) => {
-            let mut turn = turn;
-            turn.again = Some(again);
-            Ok(turn)
-        }
-        Err(error) => {
-            drop(turn);
-            Err(error)
-        }
-    }
-}
-
-/// Serves the call. The files' call after that many fails.
-fn call_turn<
-    E: Watched<EntryKey, PreprocessorCacheEntry>,
-    O: Watched<StoreKey, Pairs>,
-    T: RetoldTool,
->(
+/// Serves the call, and adds what came of it. The files' call after that many fails. Returns after how many that is in the calls to come.
+fn push_turn<T: RetoldTool>(
     alloc: Global,
     call: ScenarioCall,
-    files_left: u64,
-    session: &mut Session<Sha256, E, O>,
+    left: u64,
+    session: &mut Served,
     tool: &mut FailTool<T>,
-) -> Result<Turn, AllocError> {
+    turns: &mut Vec<Turn>,
+) -> Result<u64, AllocError> {
     let ScenarioCall {
         request,
         files,
@@ -248,42 +216,21 @@ fn call_turn<
         forget: _,
     } = call;
     tool.tool.tell(crate_texts);
-    let mut files = FailFiles::new(files, files_left);
-    let turn = turn_of(alloc, session, &request, &mut files, tool);
+    let mut files = FailFiles::new(files, left);
+    let pushed = push_served(alloc, session, &request, &mut files, tool, turns);
+    let left = files_left(&files);
     drop(files);
     drop(request);
-    turn
-}
-
-/// Serves the call, and adds what came of it. The files' call after that many fails. Returns after how many that is in the calls to come.
-fn push_turn<
-    E: Watched<EntryKey, PreprocessorCacheEntry>,
-    O: Watched<StoreKey, Pairs>,
-    T: RetoldTool,
->(
-    alloc: Global,
-    call: ScenarioCall,
-    files_left: u64,
-    session: &mut Session<Sha256, E, O>,
-    tool: &mut FailTool<T>,
-    turns: &mut Vec<Turn>,
-) -> Result<u64, AllocError> {
-    let turn = call_turn(alloc, call, files_left, session, tool)?;
-    let left = turn.files_left;
-    turns.push(turn)?;
+    pushed?;
     Ok(left)
 }
 
 /// Serves the calls in order, and adds what came of each. The files' call after that many fails.
-fn push_turns<
-    E: Watched<EntryKey, PreprocessorCacheEntry>,
-    O: Watched<StoreKey, Pairs>,
-    T: RetoldTool,
->(
+fn push_turns<T: RetoldTool>(
     alloc: Global,
     calls: Vec<ScenarioCall>,
     files_left: u64,
-    session: &mut Session<Sha256, E, O>,
+    session: &mut Served,
     tool: &mut FailTool<T>,
     turns: &mut Vec<Turn>,
 ) -> Result<(), AllocError> {
@@ -295,15 +242,11 @@ fn push_turns<
 }
 
 /// Serves the calls in order. The files' call after that many fails.
-fn turns_of<
-    E: Watched<EntryKey, PreprocessorCacheEntry>,
-    O: Watched<StoreKey, Pairs>,
-    T: RetoldTool,
->(
+fn turns_of<T: RetoldTool>(
     alloc: Global,
     calls: Vec<ScenarioCall>,
     files_left: u64,
-    session: &mut Session<Sha256, E, O>,
+    session: &mut Served,
     tool: &mut FailTool<T>,
 ) -> Result<Run, AllocError> {
     let mut turns = Vec::new(alloc);
@@ -320,12 +263,12 @@ fn turns_of<
 }
 
 /// Serves the calls by a scripted tool of this configuration. One call of each device fails.
-fn run_calls<E: Watched<EntryKey, PreprocessorCacheEntry>, O: Watched<StoreKey, Pairs>>(
+fn run_calls(
     alloc: Global,
     config: KeyConfig,
     calls: Vec<ScenarioCall>,
     limits: Limits,
-    session: &mut Session<Sha256, E, O>,
+    session: &mut Served,
 ) -> Result<Run, AllocError> {
     let print: StatusOf = Box::new(alloc, |text: &[u8]| print_status(text))?;
     let compile: StatusOf = Box::new(alloc, |text: &[u8]| error_status(text))?;
@@ -334,13 +277,13 @@ fn run_calls<E: Watched<EntryKey, PreprocessorCacheEntry>, O: Watched<StoreKey, 
 }
 
 /// Serves the calls by a scripted tool whose compilers end with these statuses.
-fn run_by<E: Watched<EntryKey, PreprocessorCacheEntry>, O: Watched<StoreKey, Pairs>>(
+fn run_by(
     alloc: Global,
     config: KeyConfig,
     statuses: Statuses,
     calls: Vec<ScenarioCall>,
     limits: Limits,
-    session: &mut Session<Sha256, E, O>,
+    session: &mut Served,
 ) -> Result<Run, AllocError> {
     let compilers = EachKind::new(alloc)?;
     let tool = ScriptTool::new(config, CrateTexts::empty(alloc), compilers, statuses);
@@ -350,35 +293,20 @@ fn run_by<E: Watched<EntryKey, PreprocessorCacheEntry>, O: Watched<StoreKey, Pai
     run
 }
 
-/// A run of the scenario of this line over these stores, in which one call of each device fails.
-pub(crate) fn run_over<E: Watched<EntryKey, PreprocessorCacheEntry>, O: Watched<StoreKey, Pairs>>(
-    alloc: Global,
-    line: &[u8],
-    limits: Limits,
-    entries: E,
-    objects: O,
-) -> Result<Run, Stop> {
+/// A run of the scenario of this line over stores that are empty at first, in which one call of each device fails.
+pub(crate) fn plain_run(alloc: Global, line: &[u8], limits: Limits) -> Result<Run, Stop> {
     let Scenario {
         session_config,
         tool_config,
         capacity: _,
         calls,
     } = read_scenario(alloc, line)?;
-    let mut session = Session::new(alloc, session_config, entries, objects);
+    let entries = Records::new(alloc);
+    let objects = Outputs::new(alloc);
+    let mut session = Served::new(alloc, session_config, entries, objects);
     let run = run_calls(alloc, tool_config, calls, limits, &mut session);
     drop(session);
     Ok(run?)
-}
-
-/// A run over stores that keep all, in which one call of each device fails.
-pub(crate) fn plain_run(alloc: Global, line: &[u8], limits: Limits) -> Result<Run, Stop> {
-    run_over(
-        alloc,
-        line,
-        limits,
-        MapStore::new(alloc),
-        MapStore::new(alloc),
-    )
 }
 
 /// Adds these answers in brief.

@@ -1,73 +1,37 @@
-//! What is seen of stores.
+//! The stores of a session, and what is seen of them.
 
-use base_bounded_store::LruStore;
+use ckeys::{EntryKey, PreprocessorCacheEntry};
 use ckeys_base::Store;
+use sha2::Sha256;
 use std::hash::Hash;
-use tests_kit::Forgetful;
+use wrap::Session;
 use wrap_base::MapStore;
+use wrap_base::store_key::{Pairs, StoreKey};
+
+/// The store of include records, and that of outputs. Each keeps all unless memory runs out.
+pub(crate) type Records = MapStore<EntryKey, PreprocessorCacheEntry>;
+
+pub(crate) type Outputs = MapStore<StoreKey, Pairs>;
+
+/// A session over them.
+pub(crate) type Served = Session<Sha256, Records, Outputs>;
 
 /// What is seen of a store.
 #[derive(Clone, Copy)]
 pub(crate) struct Seen {
-    /// How often it was asked to look up.
-    pub(crate) gets: u64,
     /// How often it was asked to put.
     pub(crate) puts: u64,
-    /// How many pairs it refused by an order.
-    pub(crate) refused: u64,
-    /// How often a look-up forgot what was asked for.
-    pub(crate) forgot: u64,
     /// Whether it kept all.
     pub(crate) kept: bool,
     /// How many pairs it holds.
     pub(crate) held: usize,
 }
 
-/// A store that says how many pairs it holds, and how many it refused by an order.
-pub(crate) trait Watched<K: Eq, V>: Store<K, V> + Drop {
-    fn held(&self) -> usize;
-
-    fn refused(&self) -> u64;
-}
-
-impl<K: Eq + Hash + Drop, V: Drop> Watched<K, V> for MapStore<K, V> {
-    fn held(&self) -> usize {
-        self.len()
-    }
-
-    fn refused(&self) -> u64 {
-        0
-    }
-}
-
-impl<K: Eq + Hash + Drop, V: Drop> Watched<K, V> for LruStore<K, V> {
-    fn held(&self) -> usize {
-        self.len()
-    }
-
-    fn refused(&self) -> u64 {
-        0
-    }
-}
-
-impl<K: Eq + Hash + Drop, V: Drop> Watched<K, V> for Forgetful<K, V> {
-    fn held(&self) -> usize {
-        self.len()
-    }
-
-    fn refused(&self) -> u64 {
-        self.refused
-    }
-}
-
 /// What is seen of this store.
-pub(crate) fn seen_of<K: Eq, V, S: Watched<K, V>>(store: &S) -> Seen {
+pub(crate) fn seen_of<K: Eq + Hash + Drop, V: Drop>(store: &MapStore<K, V>) -> Seen {
     Seen {
-        gets: store.gets(),
         puts: store.puts(),
-        refused: store.refused(),
-        forgot: store.forgot(),
         kept: store.kept_all(),
-        held: store.held(),
+        held: store.len(),
     }
 }

@@ -1,11 +1,10 @@
 //! What tests of several crates write: words of a line, files of rows, files and a tool with I/O errors, files that count their calls, a
-//! store that forgets and refuses by a list of orders, a writer of little room, and texts that are compared.
+//! writer of little room, and texts that are compared.
 #![tactic(auto)]
 
 mod broken_files;
 mod fail_files;
 mod fail_tool;
-mod forgetful;
 mod narrow_writer;
 mod rows;
 mod texts;
@@ -14,7 +13,6 @@ mod watched_files;
 pub use broken_files::BrokenFiles;
 pub use fail_files::FailFiles;
 pub use fail_tool::FailTool;
-pub use forgetful::{Forgetful, Order};
 pub use narrow_writer::NarrowWriter;
 pub use rows::{files_of, insert, words};
 pub use texts::{holds, is_that, prints, write_list, write_words};
