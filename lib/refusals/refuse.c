@@ -7,7 +7,9 @@
  *
  * With EXPECTED=FILE the process begins as many others as it makes growths, each ahead of its `main`: in the first of them the first growth
  * is refused, in the next one the second, up to one that meets no refusal. Each must print what the file holds and end with status 0, or
- * print nothing but a line that ends with `memory` on standard error and end with status 2. How many there were is printed. */
+ * print nothing but a line that ends with `memory` on standard error and end with status 2. How many there were is printed. With
+ * REFUSED=FILE one that meets a refusal may also print one of that file's texts, between which are empty lines, and end with status 0; and
+ * one that ends with status 2 may have printed the beginning of such a text or of what is expected. */
 #define _GNU_SOURCE
 #include <dlfcn.h>
 #include <fcntl.h>
@@ -67,17 +69,29 @@ static char *bytes_of(int file, size_t *length) {
     return bytes;
 }
 
+/* Whether a text is one of these, between which are empty lines; or begins one of them, where that is enough. */
+static int is_among(const char *text, const char *texts, int is_begin) {
+    size_t length = strlen(text);
+    while (texts && length) {
+        if (strncmp(text, texts, length) == 0 && (is_begin || texts[length] == '\n' || !texts[length])) return 1;
+        texts = strstr(texts, "\n\n");
+        if (texts) texts += 2;
+    }
+    return 0;
+}
+
 /* Whether a process that ended so, having written this, went right. */
-static int went_right(int status, int output, int errors, const char *due, size_t due_length) {
+static int went_right(int status, int output, int errors, const char *due, size_t due_length, const char *others) {
     size_t length, said_length;
     char *written = bytes_of(output, &length), *said = bytes_of(errors, &said_length);
     const char memory[] = "memory\n";
     size_t end = sizeof memory - 1;
     int right = 0;
     if (WIFEXITED(status) && WEXITSTATUS(status) == 0)
-        right = length == due_length && memcmp(written, due, length) == 0;
+        right = (length == due_length && memcmp(written, due, length) == 0) || (*seen && is_among(written, others, 0));
     else if (WIFEXITED(status) && WEXITSTATUS(status) == 2)
-        right = length == 0 && said_length >= end && strcmp(said + said_length - end, memory) == 0;
+        right = (length == 0 || (*seen && others && (is_among(written, due, 1) || is_among(written, others, 1)))) &&
+                said_length >= end && strcmp(said + said_length - end, memory) == 0;
     if (!right) fprintf(stderr, "%s%s", written, said);
     free(written);
     free(said);
@@ -91,6 +105,9 @@ __attribute__((constructor)) static void refuse_each(void) {
     size_t due_length;
     int expected = open(name, O_RDONLY | O_CLOEXEC);
     char *due = bytes_of(expected, &due_length);
+    const char *refused = getenv("REFUSED");
+    size_t others_length;
+    char *others = refused ? bytes_of(open(refused, O_RDONLY | O_CLOEXEC), &others_length) : NULL;
     seen = mmap(NULL, sizeof *seen, PROT_READ | PROT_WRITE, MAP_SHARED | MAP_ANONYMOUS, -1, 0);
     if (seen == MAP_FAILED) _exit(3);
     for (long number = 1;; number++) {
@@ -105,7 +122,7 @@ __attribute__((constructor)) static void refuse_each(void) {
             return;
         }
         if (child < 0 || waitpid(child, &status, 0) != child) _exit(3);
-        if (!went_right(status, output, errors, due, due_length)) {
+        if (!went_right(status, output, errors, due, due_length, others)) {
             fprintf(stderr, "wrong where growth %ld is refused: status %x\n", number, (unsigned)status);
             _exit(1);
         }

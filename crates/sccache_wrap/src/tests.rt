@@ -1,12 +1,7 @@
-//! Tests of sessions over recorded answers, and of what is written over `wrap` alone: what is answered, what is run, and what is lacking; of
-//! a difference between fingerprints; and of a store of many pairs. And tests of the program over scenarios: each way in which a run ends,
-//! each call of its reader and writer failing in turn, and runs that accept running out of memory.
+//! What no row of `cases/` shows: each call of a run's reader and writer failing in turn, and the texts of its faults; what is printed of a
+//! difference between fingerprints that no two requests have; and ample memory: for a build from recorded answers, and for many pairs.
 
 mod builds;
-mod bytewise;
 mod map_store;
 mod marks;
 mod program;
-mod refused;
-mod requests;
-mod steps;

@@ -1,7 +1,6 @@
 //! How a difference is reported that no row of `sccache-explain` shows: one in an output's mark alone. Only by its words does a request
 //! have an output that its compile may leave out, and where words differ that is reported.
 
-use crate::tests::requests::one_output;
 use base_files::{Listed, OsBytes};
 use ckeys_records::output_name::OutputName;
 use cmdlines_tables::language::Language;
@@ -11,7 +10,7 @@ use tests_kit::is_that;
 use wrap_fingerprints::{CParts, Difference, Fingerprint};
 
 /// The fingerprint of a request to a C compiler with these outputs and of which nothing else counts.
-pub(crate) fn with_names(alloc: Global, names: Listed<OutputName>) -> Fingerprint {
+fn with_names(alloc: Global, names: Listed<OutputName>) -> Fingerprint {
     Fingerprint::C(CParts {
         compiler: OsBytes::empty(alloc),
         plusplus: false,
@@ -23,6 +22,12 @@ pub(crate) fn with_names(alloc: Global, names: Listed<OutputName>) -> Fingerprin
         text: OsBytes::empty(alloc),
         names,
     })
+}
+
+/// The list of one output.
+fn one_output(alloc: Global, name: &str, optional: bool) -> Result<Listed<OutputName>, AllocError> {
+    let name = OsBytes::from_slice(alloc, name.as_bytes())?;
+    Ok(Listed::from_vec(vec![in alloc; OutputName { name, optional }]?))
 }
 
 /// How the first differs from the earlier one.
