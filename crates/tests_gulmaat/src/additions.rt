@@ -16,14 +16,7 @@ const ROWS: [u8; 43] = [
 /// The variable of rows as `NAME=VALUE`, with spaces between.
 fn variable_of(alloc: Global, rows: &str) -> Result<(OsBytes, OsBytes), HostError> {
     let mut additions = Additions::new(alloc);
-    let mut rest = rows;
-    // Each turn takes a byte at least.
-    for _ in 0..rows.len() {
-        if rest.is_empty() {
-            break;
-        }
-        let (row, after) = cut(rest, " ");
-        rest = after;
+    for row in rows.split_whitespace() {
         let (name, value) = cut(row, "=");
         additions.add(alloc, name, value.as_bytes())?;
     }

@@ -1,6 +1,6 @@
 //! What words say of a dependency file and of other files beside an object, and by which words a compiler prints a text.
 
-use crate::rows::{Question, Row, are_answered, told};
+use crate::rows::{Question, Row, are_answered, text_or_fail};
 use cache_known_options::text_words::text_words;
 use cache_known_options::{Beside, Dependencies, SideFiles, beside_of, dependencies_of};
 use std::alloc::{AllocError, Global};
@@ -66,7 +66,7 @@ struct Said;
 
 impl<R: AllocGlobal> Question<R> for Said {
     fn answer(&self, rt: &R, row: &Row<'_>) -> Result<String, Fail> {
-        told(text_of(rt.alloc(), row.first))
+        text_or_fail(text_of(rt.alloc(), row.first))
     }
 }
 
@@ -128,7 +128,7 @@ struct SaidBeside;
 
 impl<R: AllocGlobal> Question<R> for SaidBeside {
     fn answer(&self, rt: &R, row: &Row<'_>) -> Result<String, Fail> {
-        told(beside_text_of(rt.alloc(), row.first))
+        text_or_fail(beside_text_of(rt.alloc(), row.first))
     }
 }
 
@@ -164,7 +164,7 @@ struct Printing;
 
 impl<R: AllocGlobal> Question<R> for Printing {
     fn answer(&self, rt: &R, row: &Row<'_>) -> Result<String, Fail> {
-        told(text_words_of(rt.alloc(), row.first, row.second))
+        text_or_fail(text_words_of(rt.alloc(), row.first, row.second))
     }
 }
 

@@ -1,6 +1,6 @@
 //! What sources ask for, and the times that they may paste. Names in quotes are shown in quotes, and those of `include_next` after `next`.
 
-use crate::rows::{Question, Row, are_answered, says, told, whether, yes_or_no};
+use crate::rows::{Question, Row, are_answered, says, text_or_fail, whether, yes_or_no};
 use base_files::Lossy;
 use cache_source_directives::{
     Asked, Directives, Search, add_defined, asks_for_files, directives_of, may_define, pastes_time,
@@ -202,7 +202,7 @@ struct AskedFor;
 
 impl<R: AllocGlobal> Question<R> for AskedFor {
     fn answer(&self, rt: &R, row: &Row<'_>) -> Result<String, Fail> {
-        told(text_of(rt.alloc(), row.first))
+        text_or_fail(text_of(rt.alloc(), row.first))
     }
 }
 
@@ -262,7 +262,7 @@ struct StandsFor;
 
 impl<R: AllocGlobal> Question<R> for StandsFor {
     fn answer(&self, rt: &R, row: &Row<'_>) -> Result<String, Fail> {
-        told(text_of_defined(rt.alloc(), row.first))
+        text_or_fail(text_of_defined(rt.alloc(), row.first))
     }
 }
 

@@ -1,7 +1,7 @@
 //! Lines as they were written: which changes of a source change what is bound to a key beside its text.
 
 use crate::disks::{change, make_fresh};
-use crate::rows::{Question, Row, are_answered, says, told, yes_or_no};
+use crate::rows::{Question, Row, are_answered, says, text_or_fail, yes_or_no};
 use base_files::OsBytes;
 use cache_written_lines::{Asked, NamedFile, NamedFiles, Sources, digest_asked};
 use std::alloc::{AllocError, Global};
@@ -112,7 +112,7 @@ impl<R: Files + AllocGlobal> Question<R> for FilesNamed {
         if !named.are_all {
             return Err("more files".into());
         }
-        told(paths_of(rt.alloc(), named.files.as_slice()))
+        text_or_fail(paths_of(rt.alloc(), named.files.as_slice()))
     }
 }
 

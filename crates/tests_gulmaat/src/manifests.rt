@@ -1,6 +1,6 @@
 //! Lists of what to watch beside a manifest, and manifests that lose results and get them back.
 
-use crate::rows::{Question, Row, are_answered, cut, told};
+use crate::rows::{Question, Row, are_answered, cut, text_or_fail};
 use base_files::{FileTime, Listed};
 use base_formats::{put_framed, put_number};
 use cache_watch_lists::{WatchedResult, looks_for_result, with_list, with_results_of, without};
@@ -13,14 +13,7 @@ use tests_kit::{holds, is_that};
 /// A manifest with results of these letters, with spaces between: the key of each is its letter 64 times.
 fn record_of(alloc: Global, letters: &str) -> Result<PreprocessorCacheEntry, AllocError> {
     let mut record = PreprocessorCacheEntry::new(alloc);
-    let mut rest = letters;
-    // Each turn takes a byte at least.
-    for _ in 0..letters.len() {
-        if rest.is_empty() {
-            break;
-        }
-        let (letter, after) = cut(rest, " ");
-        rest = after;
+    for letter in letters.split_whitespace() {
         let key = KeyText::new(letter.repeat(alloc, 64)?);
         record.add_result(key, Listed::new(alloc))?;
     }
@@ -165,7 +158,7 @@ struct Left;
 
 impl<R: AllocGlobal> Question<R> for Left {
     fn answer(&self, rt: &R, row: &Row<'_>) -> Result<String, Fail> {
-        told(joined(rt.alloc(), row.first, row.second, row.third))
+        text_or_fail(joined(rt.alloc(), row.first, row.second, row.third))
     }
 }
 

@@ -1,7 +1,7 @@
 //! What words come to that map names of files, for a call in some folder.
 
 use crate::dependencies::session_words_of;
-use crate::rows::{Question, Row, are_answered, told};
+use crate::rows::{Question, Row, are_answered, text_or_fail};
 use base_files::OsBytes;
 use cache_known_options::{Beside, beside_of};
 use std::alloc::{AllocError, Global};
@@ -55,7 +55,7 @@ struct Maps;
 
 impl<R: AllocGlobal> Question<R> for Maps {
     fn answer(&self, rt: &R, row: &Row<'_>) -> Result<String, Fail> {
-        told(maps_of(rt.alloc(), row.first, row.second))
+        text_or_fail(maps_of(rt.alloc(), row.first, row.second))
     }
 }
 

@@ -88,8 +88,8 @@ pub fn are_answered<R: AllocGlobal, Q: Question<R>>(
     Ok(())
 }
 
-/// The answer of this text, where there was memory for it.
-pub fn told(text: Result<String, AllocError>) -> Result<String, Fail> {
+/// This text, where there was memory for it.
+pub fn text_or_fail(text: Result<String, AllocError>) -> Result<String, Fail> {
     match text {
         Ok(text) => Ok(text),
         Err(_) => Err("no memory".into()),
@@ -98,7 +98,7 @@ pub fn told(text: Result<String, AllocError>) -> Result<String, Fail> {
 
 /// This answer.
 pub fn says(alloc: Global, text: &str) -> Result<String, Fail> {
-    told(String::from_str(alloc, text))
+    text_or_fail(String::from_str(alloc, text))
 }
 
 /// Yes or no.

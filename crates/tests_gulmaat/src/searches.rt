@@ -1,6 +1,6 @@
 //! Where compilers say that they look: lines of GCC 12 and Clang 14, asked by `-E -v`.
 
-use crate::rows::{Question, Row, are_answered, told};
+use crate::rows::{Question, Row, are_answered, text_or_fail};
 use cache_searched_folders::SearchList;
 use std::alloc::{AllocError, Global};
 use std::fmt::Write;
@@ -57,7 +57,7 @@ struct Found;
 
 impl<R: AllocGlobal> Question<R> for Found {
     fn answer(&self, rt: &R, row: &Row<'_>) -> Result<String, Fail> {
-        told(text_of(rt.alloc(), row.first))
+        text_or_fail(text_of(rt.alloc(), row.first))
     }
 }
 

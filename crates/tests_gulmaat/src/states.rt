@@ -2,7 +2,7 @@
 //! is the same.
 
 use crate::disks::{change, change_all, line_of, make_fresh};
-use crate::rows::{Question, Row, are_answered, says, told, yes_or_no};
+use crate::rows::{Question, Row, are_answered, says, text_or_fail, yes_or_no};
 use base_files::{FileTime, OsBytes};
 use base_formats::put_framed;
 use cache_dir::digest_of;
@@ -99,7 +99,7 @@ folder a.o => none
 /// What was made at a path, as text.
 fn text_of_made(alloc: Global, made: &[Option<OsBytes>]) -> Result<String, Fail> {
     match made {
-        [Some(contents)] => told(format!(in alloc; "{contents}")),
+        [Some(contents)] => text_or_fail(format!(in alloc; "{contents}")),
         _ => says(alloc, "none"),
     }
 }
@@ -168,7 +168,7 @@ fn lock_object<R: Files<File = File> + AllocGlobal>(
 /// The path of the file `real/a.o`.
 fn object_in<R: Files + AllocGlobal>(rt: &R, folder: &str) -> Result<String, Fail> {
     let real = fs::canonicalize(rt, folder)?;
-    told(format!(in rt.alloc(); "{}/real/a.o", real.as_str()))
+    text_or_fail(format!(in rt.alloc(); "{}/real/a.o", real.as_str()))
 }
 
 /// Whether an output of this name has the lock of the file `real/a.o`, as long as it is held.
@@ -225,7 +225,7 @@ impl<R: AllocGlobal> Question<R> for TrustedDevice {
     fn answer(&self, rt: &R, row: &Row<'_>) -> Result<String, Fail> {
         let devices = devices_in(rt.alloc(), row.first.as_bytes())?;
         match devices.iter().next() {
-            Some(device) => told(format!(in rt.alloc(); "{device:x}")),
+            Some(device) => text_or_fail(format!(in rt.alloc(); "{device:x}")),
             None => Ok(String::new(rt.alloc())),
         }
     }

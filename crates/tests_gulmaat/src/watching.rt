@@ -1,7 +1,7 @@
 //! What is watched of a text: each row changes a tree of folders, and says whether a compiler would find the same files as before.
 
 use crate::disks::{change, change_all, line_of, make_fresh};
-use crate::rows::{Question, Row, are_answered, says, told, whether, yes_or_no};
+use crate::rows::{Question, Row, are_answered, says, text_or_fail, whether, yes_or_no};
 use base_files::FileTime;
 use cache_host::CommandLine;
 use cache_searched_folders::{AskingSources, Places, SearchList, Source, TextFiles, Watching};
@@ -284,7 +284,7 @@ impl<R: Files + AllocGlobal> Question<R> for WhyNone {
         match listed {
             Ok(true) => Ok(String::new(rt.alloc())),
             Ok(false) => says(rt.alloc(), "unclear"),
-            Err(why) => told(format!(in rt.alloc(); "{why}")),
+            Err(why) => text_or_fail(format!(in rt.alloc(); "{why}")),
         }
     }
 }

@@ -71,7 +71,11 @@ fn built(alloc: Global, config: Config, calls: &mut [RecordedCall]) -> Result<St
 }
 
 /// What it answers, and what its calls lacked.
-fn told(alloc: Global, config: Config, list: Vec<ScenarioCall>) -> Result<String, AllocError> {
+fn text_of_build(
+    alloc: Global,
+    config: Config,
+    list: Vec<ScenarioCall>,
+) -> Result<String, AllocError> {
     let mut calls = unanswered(alloc, list)?;
     let mut text = built(alloc, config, calls.as_mut_slice())?;
     push_lacking(&mut text, calls.as_slice())?;
@@ -88,6 +92,6 @@ fn what_is_lacking_is_told(rt: HostRuntime) -> Result<(), Fail> {
         calls,
         ..
     } = scenario;
-    let text = told(rt.alloc(), session_config, calls)?;
+    let text = text_of_build(rt.alloc(), session_config, calls)?;
     is_that(text.as_str(), LACKING, "a build")
 }
