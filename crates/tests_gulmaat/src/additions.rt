@@ -63,8 +63,8 @@ b=2 | a=1 b=2 => a: none, earlier 1
 /// Where rows differ from earlier ones.
 struct Difference;
 
-impl<R: AllocGlobal> Question<R> for Difference {
-    fn answer(&self, rt: &R, row: &Row<'_>) -> Result<String, Fail> {
+impl Question for Difference {
+    fn answer(&self, rt: &HostRuntime, row: &Row<'_>) -> Result<String, Fail> {
         match difference_of(rt.alloc(), row.first, row.second) {
             Ok(Some(text)) => Ok(text),
             Ok(None) => Ok(String::new(rt.alloc())),

@@ -64,8 +64,8 @@ fn text_of(alloc: Global, line: &str) -> Result<String, AllocError> {
 /// What words say.
 struct Said;
 
-impl<R: AllocGlobal> Question<R> for Said {
-    fn answer(&self, rt: &R, row: &Row<'_>) -> Result<String, Fail> {
+impl Question for Said {
+    fn answer(&self, rt: &HostRuntime, row: &Row<'_>) -> Result<String, Fail> {
         text_or_fail(text_of(rt.alloc(), row.first))
     }
 }
@@ -126,8 +126,8 @@ fn beside_text_of(alloc: Global, line: &str) -> Result<String, AllocError> {
 /// What words say of files beside the object.
 struct SaidBeside;
 
-impl<R: AllocGlobal> Question<R> for SaidBeside {
-    fn answer(&self, rt: &R, row: &Row<'_>) -> Result<String, Fail> {
+impl Question for SaidBeside {
+    fn answer(&self, rt: &HostRuntime, row: &Row<'_>) -> Result<String, Fail> {
         text_or_fail(beside_text_of(rt.alloc(), row.first))
     }
 }
@@ -162,8 +162,8 @@ fn text_words_of(alloc: Global, line: &str, list: &str) -> Result<String, AllocE
 /// The words by which a text is printed.
 struct Printing;
 
-impl<R: AllocGlobal> Question<R> for Printing {
-    fn answer(&self, rt: &R, row: &Row<'_>) -> Result<String, Fail> {
+impl Question for Printing {
+    fn answer(&self, rt: &HostRuntime, row: &Row<'_>) -> Result<String, Fail> {
         text_or_fail(text_words_of(rt.alloc(), row.first, row.second))
     }
 }

@@ -200,8 +200,8 @@ fn text_of(alloc: Global, source: &str) -> Result<String, AllocError> {
 /// What a source asks for.
 struct AskedFor;
 
-impl<R: AllocGlobal> Question<R> for AskedFor {
-    fn answer(&self, rt: &R, row: &Row<'_>) -> Result<String, Fail> {
+impl Question for AskedFor {
+    fn answer(&self, rt: &HostRuntime, row: &Row<'_>) -> Result<String, Fail> {
         text_or_fail(text_of(rt.alloc(), row.first))
     }
 }
@@ -260,8 +260,8 @@ fn text_of_defined(alloc: Global, source: &str) -> Result<String, AllocError> {
 /// What a macro stands for.
 struct StandsFor;
 
-impl<R: AllocGlobal> Question<R> for StandsFor {
-    fn answer(&self, rt: &R, row: &Row<'_>) -> Result<String, Fail> {
+impl Question for StandsFor {
+    fn answer(&self, rt: &HostRuntime, row: &Row<'_>) -> Result<String, Fail> {
         text_or_fail(text_of_defined(rt.alloc(), row.first))
     }
 }
@@ -286,8 +286,8 @@ const DEFINING: &str = r#"
 /// Whether a source may define the macro.
 struct MayDefine;
 
-impl<R: AllocGlobal> Question<R> for MayDefine {
-    fn answer(&self, rt: &R, row: &Row<'_>) -> Result<String, Fail> {
+impl Question for MayDefine {
+    fn answer(&self, rt: &HostRuntime, row: &Row<'_>) -> Result<String, Fail> {
         let may_define = may_define(rt.alloc(), row.first.as_bytes(), b"A_B");
         whether(rt.alloc(), may_define)
     }
@@ -320,8 +320,8 @@ TIME DATE __T => no
 /// Whether a source may paste a macro of the time.
 struct PastesTime;
 
-impl<R: AllocGlobal> Question<R> for PastesTime {
-    fn answer(&self, rt: &R, row: &Row<'_>) -> Result<String, Fail> {
+impl Question for PastesTime {
+    fn answer(&self, rt: &HostRuntime, row: &Row<'_>) -> Result<String, Fail> {
         yes_or_no(rt.alloc(), pastes_time(row.first.as_bytes()))
     }
 }
@@ -353,8 +353,8 @@ const WORDS: &str = r#"
 /// What words bring: times, and files.
 struct Brought;
 
-impl<R: AllocGlobal> Question<R> for Brought {
-    fn answer(&self, rt: &R, row: &Row<'_>) -> Result<String, Fail> {
+impl Question for Brought {
+    fn answer(&self, rt: &HostRuntime, row: &Row<'_>) -> Result<String, Fail> {
         let list = words(rt.alloc(), row.first)?;
         let tells = tells_time(list.as_slice());
         let asks = asks_for_files(list.as_slice());

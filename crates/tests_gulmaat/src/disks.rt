@@ -6,13 +6,12 @@ use base_formats::{put_framed, put_number};
 use cache_host::CommandLine;
 use std::alloc::{Alloc, AllocError, Global};
 use std::fs;
-use std::rt::Files;
 use std::test::Fail;
 use std::time::UNIX_EPOCH;
 use tests_kit::words;
 
 /// Makes a folder of that name, without anything in it.
-pub fn make_fresh<R: Files + Alloc>(rt: &R, folder: &str) -> Result<(), Fail> {
+pub fn make_fresh(rt: &HostRuntime, folder: &str) -> Result<(), Fail> {
     let _ = fs::remove_dir_all(rt, folder);
     match fs::create_dir(rt, folder) {
         Ok(()) => Ok(()),
@@ -21,12 +20,7 @@ pub fn make_fresh<R: Files + Alloc>(rt: &R, folder: &str) -> Result<(), Fail> {
 }
 
 /// Does at a path what a verb says, with that text.
-fn change_at<R: Files + AllocGlobal>(
-    rt: &R,
-    verb: &str,
-    path: &str,
-    text: &str,
-) -> Result<(), Fail> {
+fn change_at(rt: &HostRuntime, verb: &str, path: &str, text: &str) -> Result<(), Fail> {
     let done = match verb {
         "folder" => fs::create_dir(rt, path),
         "write" => fs::write(rt, path, text.as_bytes()),
@@ -39,7 +33,7 @@ fn change_at<R: Files + AllocGlobal>(
 }
 
 /// Does in a folder what a row says: `folder PATH`, `write PATH TEXT`, `link PATH TO`, `remove PATH` or `unfold PATH`; nothing where it is empty.
-pub fn change<R: Files + AllocGlobal>(rt: &R, folder: &str, row: &str) -> Result<(), Fail> {
+pub fn change(rt: &HostRuntime, folder: &str, row: &str) -> Result<(), Fail> {
     let (verb, rest) = cut(row, " ");
     let (path, text) = cut(rest, " ");
     let path = format!(in rt.alloc(); "{folder}/{path}")?;
@@ -47,7 +41,7 @@ pub fn change<R: Files + AllocGlobal>(rt: &R, folder: &str, row: &str) -> Result
 }
 
 /// Does what all of these rows say, each a line.
-pub fn change_all<R: Files + AllocGlobal>(rt: &R, folder: &str, rows: &str) -> Result<(), Fail> {
+pub fn change_all(rt: &HostRuntime, folder: &str, rows: &str) -> Result<(), Fail> {
     for row in rows.lines() {
         change(rt, folder, row)?;
     }
@@ -91,11 +85,7 @@ fn message_of(alloc: Global, dir: &str, line: &str) -> Result<Vec<u8>, AllocErro
 }
 
 /// The command line of these words in a folder, without variables.
-pub fn line_of<R: Files + AllocGlobal>(
-    rt: &R,
-    dir: &str,
-    words: &str,
-) -> Result<CommandLine, Fail> {
+pub fn line_of(rt: &HostRuntime, dir: &str, words: &str) -> Result<CommandLine, Fail> {
     let message = message_of(rt.alloc(), dir, words)?;
     match CommandLine::read(rt, message.as_slice(), UNIX_EPOCH) {
         Ok(line) => Ok(line),

@@ -7,7 +7,6 @@ use cache_written_lines::{Asked, NamedFile, NamedFiles, Sources, digest_asked};
 use std::alloc::{AllocError, Global};
 use std::fmt::Write;
 use std::fs;
-use std::rt::Files;
 use std::test::Fail;
 
 /// A source before and after a change, the text of both, and what is the same: their lines, and all their contents.
@@ -43,12 +42,7 @@ fn digest_by(
 }
 
 /// The digest of what is asked of a source with these contents and that text.
-fn digest_of<R: Files + AllocGlobal>(
-    rt: &R,
-    asked: Asked,
-    source: &str,
-    text: &str,
-) -> Result<OsBytes, Fail> {
+fn digest_of(rt: &HostRuntime, asked: Asked, source: &str, text: &str) -> Result<OsBytes, Fail> {
     fs::write(rt, "gulmaat_tests_lines/a.c", source.as_bytes())?;
     let mut named = NamedFiles::of(rt, b"gulmaat_tests_lines", text.as_bytes())?;
     named.read(rt);
@@ -56,7 +50,7 @@ fn digest_of<R: Files + AllocGlobal>(
 }
 
 /// Whether the same is asked of a source before and after a change.
-fn are_alike<R: Files + AllocGlobal>(rt: &R, asked: Asked, row: &Row<'_>) -> Result<bool, Fail> {
+fn are_alike(rt: &HostRuntime, asked: Asked, row: &Row<'_>) -> Result<bool, Fail> {
     let before = digest_of(rt, asked, row.first, row.third)?;
     let after = digest_of(rt, asked, row.second, row.third)?;
     Ok(before == after)
@@ -65,8 +59,8 @@ fn are_alike<R: Files + AllocGlobal>(rt: &R, asked: Asked, row: &Row<'_>) -> Res
 /// What is the same before and after a change.
 struct SameParts;
 
-impl<R: Files + AllocGlobal> Question<R> for SameParts {
-    fn answer(&self, rt: &R, row: &Row<'_>) -> Result<String, Fail> {
+impl Question for SameParts {
+    fn answer(&self, rt: &HostRuntime, row: &Row<'_>) -> Result<String, Fail> {
         let lines = are_alike(rt, Asked::Lines, row)?;
         let contents = are_alike(rt, Asked::Contents, row)?;
         let text = match (lines, contents) {
@@ -106,8 +100,8 @@ fn paths_of(alloc: Global, files: &[NamedFile]) -> Result<String, AllocError> {
 /// The files that a text names.
 struct FilesNamed;
 
-impl<R: Files + AllocGlobal> Question<R> for FilesNamed {
-    fn answer(&self, rt: &R, row: &Row<'_>) -> Result<String, Fail> {
+impl Question for FilesNamed {
+    fn answer(&self, rt: &HostRuntime, row: &Row<'_>) -> Result<String, Fail> {
         let named = NamedFiles::of(rt, b"/d", row.first.as_bytes())?;
         if !named.are_all {
             return Err("more files".into());
@@ -132,8 +126,8 @@ remove a.h => no
 /// Whether named files are unchanged once that was done.
 struct AreUnchanged;
 
-impl<R: Files + AllocGlobal> Question<R> for AreUnchanged {
-    fn answer(&self, rt: &R, row: &Row<'_>) -> Result<String, Fail> {
+impl Question for AreUnchanged {
+    fn answer(&self, rt: &HostRuntime, row: &Row<'_>) -> Result<String, Fail> {
         let folder = "gulmaat_tests_named";
         make_fresh(rt, folder)?;
         change(rt, folder, "write a.h 1")?;

@@ -20,8 +20,8 @@ a.o: a.c\n => no
 /// Whether a list has all files of another.
 struct HasFiles;
 
-impl<R: AllocGlobal> Question<R> for HasFiles {
-    fn answer(&self, rt: &R, row: &Row<'_>) -> Result<String, Fail> {
+impl Question for HasFiles {
+    fn answer(&self, rt: &HostRuntime, row: &Row<'_>) -> Result<String, Fail> {
         let (written, list) = (row.first.as_bytes(), row.second.as_bytes());
         whether(rt.alloc(), names_files_of(rt.alloc(), written, list))
     }

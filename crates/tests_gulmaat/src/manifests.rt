@@ -6,7 +6,6 @@ use base_formats::{put_framed, put_number};
 use cache_watch_lists::{WatchedResult, looks_for_result, with_list, with_results_of, without};
 use ckeys_include_records::{KeyText, PreprocessorCacheEntry};
 use std::alloc::{AllocError, Global};
-use std::rt::Files;
 use std::test::Fail;
 use tests_kit::{holds, is_that};
 
@@ -60,12 +59,7 @@ fn more_lists(
 }
 
 /// Whether a result holds for a call in a folder; it doesn't where other messages are kept beside it.
-fn is_held<R: Files + AllocGlobal>(
-    rt: &R,
-    lists: &[u8],
-    folder: &str,
-    letter: &str,
-) -> Result<bool, Fail> {
+fn is_held(rt: &HostRuntime, lists: &[u8], folder: &str, letter: &str) -> Result<bool, Fail> {
     let key = letter.repeat(rt.alloc(), 64)?;
     let (dir, key) = (folder.as_bytes(), key.as_bytes());
     let before = FileTime::from_seconds(0);
@@ -76,11 +70,7 @@ fn is_held<R: Files + AllocGlobal>(
 }
 
 /// Which of the results `a` and `b` hold for a call in a folder.
-fn holding<R: Files + AllocGlobal>(
-    rt: &R,
-    lists: &[u8],
-    folder: &str,
-) -> Result<&'static str, Fail> {
+fn holding(rt: &HostRuntime, lists: &[u8], folder: &str) -> Result<&'static str, Fail> {
     let first = is_held(rt, lists, folder, "a")?;
     let second = is_held(rt, lists, folder, "b")?;
     Ok(match (first, second) {
@@ -104,7 +94,7 @@ b | five | b => one [], two [b]
 "#;
 
 /// Asserts that these lists hold for calls in `one` and in `two` as a row says.
-fn hold_as<R: Files + AllocGlobal>(rt: &R, lists: &[u8], want: &str) -> Result<(), Fail> {
+fn hold_as(rt: &HostRuntime, lists: &[u8], want: &str) -> Result<(), Fail> {
     let in_one = holding(rt, lists, "one")?;
     let in_two = holding(rt, lists, "two")?;
     let text = format!(in rt.alloc(); "one [{in_one}], two [{in_two}]")?;
@@ -156,8 +146,8 @@ a |  | a =>
 /// The results that are left.
 struct Left;
 
-impl<R: AllocGlobal> Question<R> for Left {
-    fn answer(&self, rt: &R, row: &Row<'_>) -> Result<String, Fail> {
+impl Question for Left {
+    fn answer(&self, rt: &HostRuntime, row: &Row<'_>) -> Result<String, Fail> {
         text_or_fail(joined(rt.alloc(), row.first, row.second, row.third))
     }
 }

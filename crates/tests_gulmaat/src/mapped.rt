@@ -53,8 +53,8 @@ fn maps_of(alloc: Global, dir: &str, line: &str) -> Result<String, AllocError> {
 /// What words come to.
 struct Maps;
 
-impl<R: AllocGlobal> Question<R> for Maps {
-    fn answer(&self, rt: &R, row: &Row<'_>) -> Result<String, Fail> {
+impl Question for Maps {
+    fn answer(&self, rt: &HostRuntime, row: &Row<'_>) -> Result<String, Fail> {
         text_or_fail(maps_of(rt.alloc(), row.first, row.second))
     }
 }

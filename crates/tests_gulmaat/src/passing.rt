@@ -4,7 +4,6 @@ use crate::disks::line_of;
 use crate::rows::{Question, Row, are_answered};
 use cache_c_requests::reason_against;
 use cmdlines_tables::CCompilerKind;
-use std::rt::Files;
 use std::test::Fail;
 
 /// Words, and the one that speaks against keeping; nothing where none does.
@@ -35,8 +34,8 @@ const REASONS: &str = r#"
 /// The word that speaks against keeping.
 struct ReasonAgainst;
 
-impl<R: Files + AllocGlobal> Question<R> for ReasonAgainst {
-    fn answer(&self, rt: &R, row: &Row<'_>) -> Result<String, Fail> {
+impl Question for ReasonAgainst {
+    fn answer(&self, rt: &HostRuntime, row: &Row<'_>) -> Result<String, Fail> {
         let line = line_of(rt, "/d", row.first)?;
         let reason = reason_against(rt.alloc(), &line, CCompilerKind::Gcc);
         drop(line);

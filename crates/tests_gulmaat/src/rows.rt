@@ -16,9 +16,9 @@ pub struct Row<'a> {
 }
 
 /// What a test asks of each of its rows.
-pub trait Question<R> {
+pub trait Question {
     /// The answer, as text.
-    fn answer(&self, rt: &R, row: &Row<'_>) -> Result<String, Fail>;
+    fn answer(&self, rt: &HostRuntime, row: &Row<'_>) -> Result<String, Fail>;
 }
 
 /// What comes before a separator, and what comes after it: nothing where there is none.
@@ -58,7 +58,7 @@ fn unescaped(alloc: Global, line: &str) -> Result<String, AllocError> {
 }
 
 /// Asserts that a question is answered as a row says. Spaces before an answer don't count.
-fn is_answered<R, Q: Question<R>>(rt: &R, row: &str, question: &Q) -> Result<(), Fail> {
+fn is_answered<Q: Question>(rt: &HostRuntime, row: &str, question: &Q) -> Result<(), Fail> {
     let Some((given, want)) = row.split_once(" =>") else {
         return Err("a row without an answer".into());
     };
@@ -74,11 +74,7 @@ fn is_answered<R, Q: Question<R>>(rt: &R, row: &str, question: &Q) -> Result<(),
 }
 
 /// Asserts that a question is answered as these rows say, one after the other.
-pub fn are_answered<R: AllocGlobal, Q: Question<R>>(
-    rt: &R,
-    rows: &str,
-    question: &Q,
-) -> Result<(), Fail> {
+pub fn are_answered<Q: Question>(rt: &HostRuntime, rows: &str, question: &Q) -> Result<(), Fail> {
     for line in rows.lines() {
         if !line.is_empty() {
             let row = unescaped(rt.alloc(), line)?;

@@ -55,8 +55,8 @@ fn text_of(alloc: Global, said: &str) -> Result<String, AllocError> {
 /// What is read of what a compiler says.
 struct Found;
 
-impl<R: AllocGlobal> Question<R> for Found {
-    fn answer(&self, rt: &R, row: &Row<'_>) -> Result<String, Fail> {
+impl Question for Found {
+    fn answer(&self, rt: &HostRuntime, row: &Row<'_>) -> Result<String, Fail> {
         text_or_fail(text_of(rt.alloc(), row.first))
     }
 }

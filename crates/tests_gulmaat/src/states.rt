@@ -13,7 +13,6 @@ use cache_watch_lists::devices_in;
 use std::alloc::{AllocError, Global};
 use std::fs;
 use std::fs::{File, OpenOptions};
-use std::rt::Files;
 use std::test::Fail;
 use tests_kit::holds;
 
@@ -27,7 +26,7 @@ fn row_of(alloc: Global, place: &str, state: State) -> Result<Vec<u8>, AllocErro
 }
 
 /// The token that is noted of a file in its state now.
-fn tokens_of<R: Files + AllocGlobal>(rt: &R, place: &str) -> Result<Tokens, Fail> {
+fn tokens_of(rt: &HostRuntime, place: &str) -> Result<Tokens, Fail> {
     let alloc = rt.alloc();
     let state = State::of(&fs::metadata(rt, place)?);
     let row = row_of(alloc, place, state)?;
@@ -37,7 +36,7 @@ fn tokens_of<R: Files + AllocGlobal>(rt: &R, place: &str) -> Result<Tokens, Fail
 }
 
 /// Whether these tokens know a file as it is now.
-fn knows<R: Files + AllocGlobal>(rt: &R, tokens: &Tokens, place: &str) -> Result<bool, Fail> {
+fn knows(rt: &HostRuntime, tokens: &Tokens, place: &str) -> Result<bool, Fail> {
     let metadata = fs::metadata(rt, place)?;
     let path = OsBytes::from_slice(rt.alloc(), place.as_bytes())?;
     match tokens.get(&path, &metadata) {
@@ -59,8 +58,8 @@ struct IsKnown<'a> {
     tokens: &'a Tokens,
 }
 
-impl<R: Files + AllocGlobal> Question<R> for IsKnown<'_> {
-    fn answer(&self, rt: &R, row: &Row<'_>) -> Result<String, Fail> {
+impl Question for IsKnown<'_> {
+    fn answer(&self, rt: &HostRuntime, row: &Row<'_>) -> Result<String, Fail> {
         change(rt, "gulmaat_tests_tokens", row.first)?;
         let is_known = knows(rt, self.tokens, row.second)?;
         yes_or_no(rt.alloc(), is_known)
@@ -107,8 +106,8 @@ fn text_of_made(alloc: Global, made: &[Option<OsBytes>]) -> Result<String, Fail>
 /// What was made at a path while a row was done.
 struct MadeWhile;
 
-impl<R: Files + AllocGlobal> Question<R> for MadeWhile {
-    fn answer(&self, rt: &R, row: &Row<'_>) -> Result<String, Fail> {
+impl Question for MadeWhile {
+    fn answer(&self, rt: &HostRuntime, row: &Row<'_>) -> Result<String, Fail> {
         let paths = alone(rt.alloc(), "gulmaat_tests_made/a.o")?;
         let before = states_of(rt, paths.as_slice())?;
         let changed = change(rt, "gulmaat_tests_made", row.first);
@@ -130,11 +129,7 @@ fn outputs_are_made(rt: HostRuntime) -> Result<(), Fail> {
 }
 
 /// The file of the lock of a path, where there is one.
-fn lock_of<R: Files<File = File> + AllocGlobal>(
-    rt: &R,
-    folder: &str,
-    path: &str,
-) -> Result<Option<File>, Fail> {
+fn lock_of(rt: &HostRuntime, folder: &str, path: &str) -> Result<Option<File>, Fail> {
     let alloc = rt.alloc();
     let Ok(digest) = digest_of(alloc, path.as_bytes()) else {
         return Err("no digest".into());
@@ -147,8 +142,8 @@ fn lock_of<R: Files<File = File> + AllocGlobal>(
 }
 
 /// Whether these outputs have the lock of this object, as long as it is held.
-fn lock_object<R: Files<File = File> + AllocGlobal>(
-    rt: &R,
+fn lock_object(
+    rt: &HostRuntime,
     folder: &str,
     line: &CommandLine,
     paths: &[OsBytes],
@@ -166,17 +161,13 @@ fn lock_object<R: Files<File = File> + AllocGlobal>(
 }
 
 /// The path of the file `real/a.o`.
-fn object_in<R: Files + AllocGlobal>(rt: &R, folder: &str) -> Result<String, Fail> {
+fn object_in(rt: &HostRuntime, folder: &str) -> Result<String, Fail> {
     let real = fs::canonicalize(rt, folder)?;
     text_or_fail(format!(in rt.alloc(); "{}/real/a.o", real.as_str()))
 }
 
 /// Whether an output of this name has the lock of the file `real/a.o`, as long as it is held.
-fn locks_object<R: Files<File = File> + AllocGlobal>(
-    rt: &R,
-    folder: &str,
-    name: &str,
-) -> Result<bool, Fail> {
+fn locks_object(rt: &HostRuntime, folder: &str, name: &str) -> Result<bool, Fail> {
     let object = object_in(rt, folder)?;
     let paths = alone(rt.alloc(), name)?;
     let line = line_of(rt, folder, "-c a.c")?;
@@ -193,8 +184,8 @@ linked/a.o => yes
 /// Whether an output has the lock of the object.
 struct LocksObject;
 
-impl<R: Files<File = File> + AllocGlobal> Question<R> for LocksObject {
-    fn answer(&self, rt: &R, row: &Row<'_>) -> Result<String, Fail> {
+impl Question for LocksObject {
+    fn answer(&self, rt: &HostRuntime, row: &Row<'_>) -> Result<String, Fail> {
         let locks_object = locks_object(rt, "gulmaat_tests_locks", row.first)?;
         yes_or_no(rt.alloc(), locks_object)
     }
@@ -221,8 +212,8 @@ const MOUNTS: &str = r#"
 /// The first trusted device of a list of mounts.
 struct TrustedDevice;
 
-impl<R: AllocGlobal> Question<R> for TrustedDevice {
-    fn answer(&self, rt: &R, row: &Row<'_>) -> Result<String, Fail> {
+impl Question for TrustedDevice {
+    fn answer(&self, rt: &HostRuntime, row: &Row<'_>) -> Result<String, Fail> {
         let devices = devices_in(rt.alloc(), row.first.as_bytes())?;
         match devices.iter().next() {
             Some(device) => text_or_fail(format!(in rt.alloc(); "{device:x}")),

@@ -87,8 +87,8 @@ x.include\n    .include("a")\n    .incbin[1]; => no
 /// Whether a text takes in files.
 struct TakesFiles;
 
-impl<R: AllocGlobal> Question<R> for TakesFiles {
-    fn answer(&self, rt: &R, row: &Row<'_>) -> Result<String, Fail> {
+impl Question for TakesFiles {
+    fn answer(&self, rt: &HostRuntime, row: &Row<'_>) -> Result<String, Fail> {
         yes_or_no(rt.alloc(), takes_files(row.first.as_bytes()))
     }
 }
@@ -124,8 +124,8 @@ f("Nov 15 2023"); | noon | UTC+00:00:00 => no
 /// Whether a text tells a time of the call.
 struct TellsTime;
 
-impl<R: AllocGlobal> Question<R> for TellsTime {
-    fn answer(&self, rt: &R, row: &Row<'_>) -> Result<String, Fail> {
+impl Question for TellsTime {
+    fn answer(&self, rt: &HostRuntime, row: &Row<'_>) -> Result<String, Fail> {
         let moment = if matches!(row.second, "noon") {
             NOON
         } else {

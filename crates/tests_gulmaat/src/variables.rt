@@ -46,8 +46,8 @@ CPATHS => no
 /// Whether compilers read a variable.
 struct IsRead;
 
-impl<R: AllocGlobal> Question<R> for IsRead {
-    fn answer(&self, rt: &R, row: &Row<'_>) -> Result<String, Fail> {
+impl Question for IsRead {
+    fn answer(&self, rt: &HostRuntime, row: &Row<'_>) -> Result<String, Fail> {
         yes_or_no(rt.alloc(), is_read(row.first.as_bytes()))
     }
 }

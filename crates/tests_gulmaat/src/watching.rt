@@ -8,7 +8,6 @@ use cache_searched_folders::{AskingSources, Places, SearchList, Source, TextFile
 use cache_source_directives::{Asked, Search};
 use cache_watch_lists::{PlainName, Unwatched, holds as list_holds};
 use std::alloc::{AllocError, Global};
-use std::rt::Files;
 use std::test::Fail;
 use tests_kit::holds;
 
@@ -23,8 +22,8 @@ const ASKED: [&str; 6] = ["p.h", "q.h", "r.h", "s/y.h", "t.h", "x.h"];
 const TREE: &str = "folder a\nfolder b\nwrite b/x.h one\nlink d b";
 
 /// Looks for these names, in brackets.
-fn search_all<R: Files + AllocGlobal>(
-    rt: &R,
+fn search_all(
+    rt: &HostRuntime,
     places: &Places,
     names: &[&str],
     watching: &mut Watching<'_, '_>,
@@ -48,8 +47,8 @@ struct Watch {
 }
 
 /// Takes what is watched where the names are asked for, of a text that names this file with these contents.
-fn watch_all<R: Files + AllocGlobal>(
-    rt: &R,
+fn watch_all(
+    rt: &HostRuntime,
     watch: &Watch,
     list: &SearchList<'_>,
     watching: &mut Watching<'_, '_>,
@@ -61,7 +60,7 @@ fn watch_all<R: Files + AllocGlobal>(
 }
 
 /// The list of what is watched; what was changed before its moment is settled.
-fn list_of<R: Files + AllocGlobal>(rt: &R, watch: &Watch) -> Result<Vec<u8>, Unwatched> {
+fn list_of(rt: &HostRuntime, watch: &Watch) -> Result<Vec<u8>, Unwatched> {
     let alloc = rt.alloc();
     let Some(list) = SearchList::read(alloc, SAID.as_bytes())? else {
         return Err(Unwatched::List);
@@ -82,8 +81,8 @@ struct Holds<'a> {
     list: &'a [u8],
 }
 
-impl<R: Files + AllocGlobal> Question<R> for Holds<'_> {
-    fn answer(&self, rt: &R, row: &Row<'_>) -> Result<String, Fail> {
+impl Question for Holds<'_> {
+    fn answer(&self, rt: &HostRuntime, row: &Row<'_>) -> Result<String, Fail> {
         change(rt, self.folder, row.first)?;
         let before = FileTime::from_seconds(i64::MAX);
         let is_held = list_holds(rt, self.folder.as_bytes(), self.list, before);
@@ -92,7 +91,7 @@ impl<R: Files + AllocGlobal> Question<R> for Holds<'_> {
 }
 
 /// Makes the changes one after the other, and asks after each whether the list holds; it doesn't for a call in another folder.
-fn hold_as<R: Files + AllocGlobal>(rt: &R, watch: &Watch, list: &[u8]) -> Result<(), Fail> {
+fn hold_as(rt: &HostRuntime, watch: &Watch, list: &[u8]) -> Result<(), Fail> {
     let folder = watch.folder;
     are_answered(rt, watch.changes, &Holds { folder, list })?;
     let before = FileTime::from_seconds(i64::MAX);
@@ -194,7 +193,7 @@ const WATCHES: [Watch; 4] = [
 ];
 
 /// Asserts that the list of what is watched holds as the changes say.
-fn is_watched<R: Files + AllocGlobal>(rt: &R, watch: &Watch) -> Result<(), Fail> {
+fn is_watched(rt: &HostRuntime, watch: &Watch) -> Result<(), Fail> {
     make_fresh(rt, watch.folder)?;
     change_all(rt, watch.folder, TREE)?;
     let Ok(list) = list_of(rt, watch) else {
@@ -256,8 +255,8 @@ fn source_of(alloc: Global, contents: &str) -> Result<TextFiles<'_>, AllocError>
 }
 
 /// Makes a list of what to watch of a source and of the text that shows what it includes; false where such a text is needed and empty.
-fn is_listed<R: Files + AllocGlobal>(
-    rt: &R,
+fn is_listed(
+    rt: &HostRuntime,
     line: &CommandLine,
     source: &str,
     shown: &str,
@@ -276,8 +275,8 @@ fn is_listed<R: Files + AllocGlobal>(
 /// Why there is no list of what to watch; an empty text where there is one.
 struct WhyNone;
 
-impl<R: Files + AllocGlobal> Question<R> for WhyNone {
-    fn answer(&self, rt: &R, row: &Row<'_>) -> Result<String, Fail> {
+impl Question for WhyNone {
+    fn answer(&self, rt: &HostRuntime, row: &Row<'_>) -> Result<String, Fail> {
         let line = line_of(rt, "gulmaat_tests_lists", row.first)?;
         let listed = is_listed(rt, &line, row.second, row.third);
         drop(line);
@@ -321,8 +320,8 @@ xxxxxxxxxxxxxxxxxxxxxxxxxxxxxxxxxxxxxxxxxxxxxxxxxxxxxxxxxxxxxxxxxxxxxxxxxxxxxxxx
 /// Whether a name is plain.
 struct IsPlain;
 
-impl<R: AllocGlobal> Question<R> for IsPlain {
-    fn answer(&self, rt: &R, row: &Row<'_>) -> Result<String, Fail> {
+impl Question for IsPlain {
+    fn answer(&self, rt: &HostRuntime, row: &Row<'_>) -> Result<String, Fail> {
         match PlainName::of(rt.alloc(), row.first) {
             Ok(plain) => yes_or_no(rt.alloc(), plain.is_some()),
             Err(_) => Err("no memory".into()),
