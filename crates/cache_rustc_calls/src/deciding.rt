@@ -3,10 +3,10 @@
 ghost use Rattle.std.specs.Prelude.{◌≡◌, ◌≤◌};
 
 use crate::finishing::{give, have_places, keep_made, paths_of};
-use crate::known::KnownCrate;
 use base_blake2::Blake2b256;
 use base_files::{Listed, OsBytes};
 use cache_host::{Additions, CommandLine, Host, HostError, into_text};
+use cache_rustc_known::KnownCrate;
 use cache_rustc_requests::{
     FoundCrate, PartRows, additions_of, found, reason_against, rustc_at, toolchain_word,
     variable_of, variables_of,

@@ -1,9 +1,9 @@
 //! The end of a call of rustc: what was made is kept, and what was kept is given, with what was printed beside it.
 
-use crate::known::KnownCrate;
 use base_files::{Listed, OsBytes, join};
 use cache_dir::{Kind, make_room};
 use cache_host::{CommandLine, HostError, text_in};
+use cache_rustc_known::KnownCrate;
 use cache_rustc_requests::{has_json, keep};
 use cache_source_files::lock_paths;
 use std::alloc::Global;

@@ -175,7 +175,7 @@ impl KnownCrate {
         request: &mut Request,
         parsed: &ParsedArguments,
     ) -> Result<(), HostError>
-        ensures { host.new.compiled ≡ host.old.compiled }
+        ensures no_compile { host.new.compiled ≡ host.old.compiled }
     {
         let dir = line.dir.clone()?;
         let words = dep_info_words(rt.alloc(), parsed)?;
@@ -199,7 +199,7 @@ impl KnownCrate {
         host: &mut Host<I>,
         request: &Request,
     ) -> Result<bool, HostError>
-        ensures { host.new.compiled ≡ host.old.compiled }
+        ensures no_compile { host.new.compiled ≡ host.old.compiled }
     {
         let (Some(Wanted { words, .. }), Some(rustc)) = (
             self.tool.wanted.take(),
@@ -314,7 +314,7 @@ impl KnownCrate {
         key: Option<&StoreKey>,
     ) -> Result<bool, HostError>
         requires { host.old.compiled ≤ 1 }
-        ensures { host.new.compiled ≤ 1 }
+        ensures once { host.new.compiled ≤ 1 }
     {
         if host.compiled() != 0 {
             return Ok(false);
@@ -327,7 +327,7 @@ impl KnownCrate {
     }
 
     /// The contents of the text on dependencies that the compile wrote; nothing where none is asked for, or there.
-    pub(crate) fn written_dep_info<R: Files + AllocGlobal>(
+    pub fn written_dep_info<R: Files + AllocGlobal>(
         &self,
         rt: &R,
     ) -> Result<Option<Vec<u8>>, HostError> {

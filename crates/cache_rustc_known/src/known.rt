@@ -31,9 +31,9 @@ pub struct KnownCrate {
     /// The hit in whose place rustc runs.
     pub audited: Option<AuditedCrate>,
     /// What the compile printed on its standard error.
-    pub(crate) errors: OsBytes,
+    pub errors: OsBytes,
     /// Whether the compile printed something that isn't kept.
-    pub(crate) is_talking: bool,
+    pub is_talking: bool,
     /// The file that was loaded last.
     loaded: Option<OsBytes>,
     /// The files that were loaded, each in the state in which it was.
@@ -238,7 +238,7 @@ impl KnownCrate {
     }
 
     /// Loads a crate that the words name: its digest is noted for its state, since others name it too.
-    pub(crate) fn load_crate<R: Files + AllocGlobal>(
+    fn load_crate<R: Files + AllocGlobal>(
         &mut self,
         rt: &R,
         line: &CommandLine,
@@ -289,7 +289,7 @@ impl KnownCrate {
     }
 
     /// Whether all files that were loaded are as they were.
-    pub(crate) fn are_unchanged<R: Files>(&self, rt: &R) -> Result<bool, HostError> {
+    pub fn are_unchanged<R: Files>(&self, rt: &R) -> Result<bool, HostError> {
         for (path, state) in self.states.iter() {
             if State::at(rt, text_in(path)?).ok() != *state {
                 return Ok(false);
