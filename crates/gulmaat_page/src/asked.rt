@@ -1,8 +1,5 @@
 //! What a user's words ask for.
 
-use crate::error::PageError;
-use std::alloc::Global;
-
 /// Which build of a log.
 #[derive(Clone, Copy)]
 pub struct AskedLog<'a> {
@@ -13,20 +10,29 @@ pub struct AskedLog<'a> {
     pub ninja: &'a str,
 }
 
+impl<'a> AskedLog<'a> {
+    /// The last build of a log.
+    pub fn last_of(path: &'a str) -> AskedLog<'a> {
+        AskedLog {
+            path,
+            has_all: false,
+            ninja: "",
+        }
+    }
+}
+
 /// What is asked for.
 #[derive(Clone, Copy)]
 pub enum Asked<'a> {
     Page(AskedLog<'a>),
     Trace(AskedLog<'a>),
-    Compare(AskedLog<'a>, AskedLog<'a>),
+    /// The last builds of two logs.
+    Compare(&'a str, &'a str),
 }
 
-/// What the arguments after the logs say of them.
-fn take_rest<'a>(
-    alloc: Global,
-    words: &'a [String],
-    log: &mut AskedLog<'a>,
-) -> Result<(), PageError> {
+/// The build of a log that these arguments after it name, or else which are right.
+fn log_of<'a>(path: &'a str, words: &'a [String]) -> Result<AskedLog<'a>, &'static str> {
+    let mut log = AskedLog::last_of(path);
     let mut names_ninja = false;
     for word in words {
         match word.as_str() {
@@ -36,43 +42,25 @@ fn take_rest<'a>(
             }
             "--all" => log.has_all = true,
             "--ninja" => names_ninja = true,
-            _ => return Err(PageError::wrong(alloc, "--all or --ninja FILE after the log")?),
+            _ => return Err("--all or --ninja FILE after the log"),
         }
     }
     match names_ninja {
-        true => Err(PageError::wrong(alloc, "--ninja FILE")?),
-        false => Ok(()),
+        true => Err("--ninja FILE"),
+        false => Ok(log),
     }
 }
 
-/// The last build of a log.
-fn last_of(path: &str) -> AskedLog<'_> {
-    AskedLog {
-        path,
-        has_all: false,
-        ninja: "",
-    }
-}
-
-/// What these words ask for.
-pub fn read_words<'a>(alloc: Global, words: &'a [String]) -> Result<Asked<'a>, PageError> {
-    let Some((option, rest)) = words.split_first() else {
-        return Err(PageError::wrong(alloc, "--page LOG, --trace LOG or --compare LOG LOG")?);
+/// What these words ask for, or else which words are right.
+pub fn read_words(words: &[String]) -> Result<Asked<'_>, &'static str> {
+    let [option, rest @ ..] = words else {
+        return Err("--page LOG, --trace LOG or --compare LOG LOG");
     };
-    if option.as_str() == "--compare" {
-        return match rest {
-            [one, other] => Ok(Asked::Compare(last_of(one.as_str()), last_of(other.as_str()))),
-            _ => Err(PageError::wrong(alloc, "--compare LOG LOG")?),
-        };
+    match (option.as_str(), rest) {
+        ("--compare", [one, other]) => Ok(Asked::Compare(one.as_str(), other.as_str())),
+        ("--compare", _) => Err("--compare LOG LOG"),
+        ("--page", [path, rest @ ..]) => Ok(Asked::Page(log_of(path.as_str(), rest)?)),
+        (_, [path, rest @ ..]) => Ok(Asked::Trace(log_of(path.as_str(), rest)?)),
+        (_, []) => Err("--page LOG or --trace LOG"),
     }
-    let is_page = option.as_str() == "--page";
-    let Some((path, rest)) = rest.split_first() else {
-        return Err(PageError::wrong(alloc, "--page LOG or --trace LOG")?);
-    };
-    let mut log = last_of(path.as_str());
-    take_rest(alloc, rest, &mut log)?;
-    Ok(match is_page {
-        true => Asked::Page(log),
-        false => Asked::Trace(log),
-    })
 }

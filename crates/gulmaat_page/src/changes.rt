@@ -1,7 +1,8 @@
-//! What came to another thing in one build than in another.
+//! What the calls of one build came to in another one.
 
 use crate::commands::explanation_of;
 use crate::reading::Build;
+use crate::writer::Writer;
 use cache_build_log::{Call, Kind, maker_of};
 use std::alloc::{AllocError, Global};
 use std::collections::BTreeMap;
@@ -25,19 +26,44 @@ pub struct Changes {
     pub changes: Vec<Change>,
 }
 
-/// The calls of a build by folder and output, of which the last one counts.
-fn calls_by_output(
+/// The folder and the output of a call, which are empty where it isn't compared.
+fn output_of<'a>(build: &'a Build, call: &Call) -> (&'a str, &'a str) {
+    match call.kind {
+        Kind::Other => ("", ""),
+        _ => (build.texts.text(call.dir), build.texts.text(call.output)),
+    }
+}
+
+/// The kinds of a build's calls by folder and output, of which the last one counts.
+fn kinds_by_output(
     alloc: Global,
     build: &Build,
-) -> Result<BTreeMap<(&str, &str), &Call>, AllocError> {
-    let mut calls = BTreeMap::new(alloc);
+) -> Result<BTreeMap<(&str, &str), Kind>, AllocError> {
+    let mut kinds = BTreeMap::new(alloc);
     for call in build.calls.as_slice() {
-        let output = build.texts.text(call.output);
-        if !output.is_empty() && call.kind != Kind::Other {
-            calls.insert((build.texts.text(call.dir), output), call)?;
+        let output = output_of(build, call);
+        if !output.1.is_empty() {
+            kinds.insert(output, call.kind)?;
         }
     }
-    Ok(calls)
+    Ok(kinds)
+}
+
+/// Writes why a call came to another kind, where that is known.
+fn push_reason(
+    text: &mut Writer,
+    alloc: Global,
+    kind: Kind,
+    explained: &str,
+) -> Result<(), AllocError> {
+    if kind == Kind::Miss {
+        text.push(", ");
+        text.push(maker_of(alloc, explained)?.as_str());
+    } else if !explained.is_empty() {
+        text.push(", ");
+        text.push(explained);
+    }
+    Ok(())
 }
 
 /// What is reported of a call that came to another kind.
@@ -47,16 +73,13 @@ fn description_of(
     from: Kind,
     call: &Call,
 ) -> Result<String, AllocError> {
-    let (earlier, now) = (from.name(), call.kind.name());
+    let mut text = Writer::new(alloc);
+    text.push(from.name());
+    text.push(" -> ");
+    text.push(call.kind.name());
     let explained = explanation_of(&build.texts, call);
-    if call.kind == Kind::Miss {
-        let maker = maker_of(alloc, explained)?;
-        return format!(in alloc; "{earlier} -> {now}, {maker}");
-    }
-    match explained.is_empty() {
-        true => format!(in alloc; "{earlier} -> {now}"),
-        false => format!(in alloc; "{earlier} -> {now}, {explained}"),
-    }
+    push_reason(&mut text, alloc, call.kind, explained)?;
+    text.done()
 }
 
 /// The changes as they were found, those that took longest first.
@@ -75,23 +98,22 @@ fn sorted(alloc: Global, found: BTreeMap<String, (u64, u64)>) -> Result<Vec<Chan
 
 /// What came to another thing in the second build than in the first.
 pub fn changes_between(alloc: Global, one: &Build, other: &Build) -> Result<Changes, AllocError> {
-    let earlier = calls_by_output(alloc, one)?;
+    let mut earlier = kinds_by_output(alloc, one)?;
     let mut found: BTreeMap<String, (u64, u64)> = BTreeMap::new(alloc);
-    let mut common = 0u64;
-    let mut changed = 0u64;
-    for (key, call) in calls_by_output(alloc, other)? {
-        let Some(before) = earlier.get(&key) else {
+    let (mut common, mut changed) = (0u64, 0u64);
+    // The last call of an output comes first, and takes that away from the others.
+    for call in other.calls.iter().rev() {
+        let Some(kind) = earlier.remove(&output_of(other, call)) else {
             continue;
         };
         common = common.saturating_add(1);
-        if before.kind == call.kind {
-            continue;
+        if kind != call.kind {
+            changed = changed.saturating_add(1);
+            let description = description_of(alloc, other, kind, call)?;
+            let sums = found.entry(description)?.or_insert((0, 0));
+            sums.0 = sums.0.saturating_add(1);
+            sums.1 = sums.1.saturating_add(call.time());
         }
-        changed = changed.saturating_add(1);
-        let description = description_of(alloc, other, before.kind, call)?;
-        let sums = found.entry(description)?.or_insert((0, 0));
-        sums.0 = sums.0.saturating_add(1);
-        sums.1 = sums.1.saturating_add(call.time());
     }
     Ok(Changes {
         common,

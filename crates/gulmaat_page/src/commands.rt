@@ -1,48 +1,68 @@
 //! Commands of calls, as a shell reads them.
 
+use crate::writer::Writer;
 use cache_build_log::{Call, Texts};
 use std::alloc::{AllocError, Global};
 
-/// Whether a shell reads this letter as itself.
-fn is_plain(letter: char) -> bool {
-    letter.is_ascii_alphanumeric() || "_@%+=:,./-^".contains(letter)
+/// Whether a shell reads this word as itself.
+fn is_plain(word: &str) -> bool {
+    for byte in word.as_bytes() {
+        match byte {
+            b'a'..=b'z' | b'A'..=b'Z' | b'_' | b'@' | b'%' | b'=' | b'^' => {}
+            // The digits are among these, and `,`, `-`, `.` and `/`.
+            b'+'..=b':' => {}
+            _ => return false,
+        }
+    }
+    !word.is_empty()
+}
+
+/// Writes a letter of a word in quotes.
+fn push_letter(text: &mut Writer, letter: char) {
+    match letter {
+        '\'' => text.push("'\\''"),
+        _ => text.push_char(letter),
+    }
 }
 
 /// Writes a word, in quotes where it needs some.
-fn push_word(text: &mut String, word: &str) -> Result<(), AllocError> {
-    if !word.is_empty() && word.chars().all(is_plain) {
-        return text.push_str(word);
+fn push_word(text: &mut Writer, word: &str) {
+    if is_plain(word) {
+        text.push(word);
+        return;
     }
-    text.push('\'')?;
+    text.push("'");
     for letter in word.chars() {
-        match letter {
-            '\'' => text.push_str("'\\''")?,
-            _ => text.push(letter)?,
-        }
+        push_letter(text, letter);
     }
-    text.push('\'')
+    text.push("'");
 }
 
 /// The command of a call.
 pub fn command_of(alloc: Global, texts: &Texts, call: &Call) -> Result<String, AllocError> {
-    let mut text = String::new(alloc);
-    push_word(&mut text, texts.text(call.compiler))?;
+    let mut text = Writer::new(alloc);
+    push_word(&mut text, texts.text(call.compiler));
     for word in call.words.as_slice() {
-        text.push(' ')?;
-        push_word(&mut text, texts.text(*word))?;
+        text.push(" ");
+        push_word(&mut text, texts.text(*word));
     }
-    Ok(text)
+    text.done()
 }
 
 /// The name by which a call is shown: its input, its output or its compiler.
 pub fn name_of<'a>(texts: &'a Texts, call: &Call) -> &'a str {
-    for id in [call.input, call.output, call.compiler].as_slice() {
-        let name = texts.text(*id);
-        if !name.is_empty() {
-            return name;
-        }
+    let (input, output) = (texts.text(call.input), texts.text(call.output));
+    let compiler = texts.text(call.compiler);
+    if !input.is_empty() {
+        return input;
     }
-    "(no name)"
+    if !output.is_empty() {
+        return output;
+    }
+    match compiler.is_empty() {
+        true => "(no name)",
+        false => compiler,
+    }
 }
 
 /// Why a call came to what it did: what differed, or why it was passed through or has no manifest.

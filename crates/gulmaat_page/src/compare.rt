@@ -1,92 +1,111 @@
 //! Two builds side by side, in twenty lines.
 
-use crate::changes::changes_between;
+use crate::changes::{Change, Changes, changes_between};
 use crate::reading::Build;
-use crate::summary::COUNTS;
-use crate::times::Time;
+use crate::summary::count_name;
+use crate::times::push_time;
+use crate::writer::Writer;
+use cache_build_log::{Kind, Sums};
 use std::alloc::{AllocError, Global};
-use std::fmt;
 
 /// How many changes are reported.
 const SHOWN: usize = 7;
 
-/// Writes a line: a name, and what both builds have of that.
-fn push_both<T: fmt::Display + Copy>(
-    text: &mut String,
-    name: &str,
-    one: T,
-    other: T,
-) -> Result<(), AllocError> {
-    write!(text, "{name:<22}{one:>14}{other:>14}\n")
+/// Writes a count at the end of its column.
+fn push_count(text: &mut Writer, alloc: Global, count: u64) {
+    let mut shown = Writer::new(alloc);
+    shown.push_number(count);
+    text.push_right(&shown);
 }
 
-/// Writes a time of both.
-fn push_times(
-    text: &mut String,
-    alloc: Global,
-    name: &str,
-    one: u64,
-    other: u64,
-) -> Result<(), AllocError> {
-    let (one, other) = (Time(one), Time(other));
-    let one = format!(in alloc; "{one}")?;
-    let other = format!(in alloc; "{other}")?;
-    push_both(text, name, one.as_str(), other.as_str())
+/// Writes a line of counts: their name, and those of both builds.
+fn push_counts(text: &mut Writer, alloc: Global, name: &str, one: u64, other: u64) {
+    text.push_left(name);
+    push_count(text, alloc, one);
+    push_count(text, alloc, other);
+    text.push("\n");
+}
+
+/// Writes a time at the end of its column.
+fn push_span(text: &mut Writer, alloc: Global, time: u64) {
+    let mut shown = Writer::new(alloc);
+    push_time(&mut shown, time);
+    text.push_right(&shown);
+}
+
+/// Writes a line of times: their name, and those of both builds.
+fn push_times(text: &mut Writer, alloc: Global, name: &str, one: u64, other: u64) {
+    text.push_left(name);
+    push_span(text, alloc, one);
+    push_span(text, alloc, other);
+    text.push("\n");
+}
+
+/// Writes how many calls of a kind there are in both. Other commands aren't compared.
+fn push_kind(text: &mut Writer, alloc: Global, one: &Sums, other: &Sums, kind: Kind) {
+    if !matches!(kind, Kind::Other) {
+        let (count, others) = (one.share(kind).count, other.share(kind).count);
+        push_counts(text, alloc, count_name(kind), count, others);
+    }
 }
 
 /// Writes the sums of both.
-fn push_sums(
-    text: &mut String,
-    alloc: Global,
-    one: &Build,
-    other: &Build,
-) -> Result<(), AllocError> {
-    let (sums, others) = (&one.sums, &other.sums);
-    push_both(text, "Calls", sums.calls, others.calls)?;
-    for (name, kind) in COUNTS.as_slice() {
-        let (share, other_share) = (sums.share(*kind), others.share(*kind));
-        push_both(text, name, share.count, other_share.count)?;
+fn push_sums(text: &mut Writer, alloc: Global, one: &Sums, other: &Sums) {
+    text.push("                               first        second\n");
+    push_counts(text, alloc, "Calls", one.calls, other.calls);
+    for kind in Kind::ALL.as_slice() {
+        push_kind(text, alloc, one, other, *kind);
     }
-    push_times(
-        text,
-        alloc,
-        "Wall time",
-        sums.wall_time(),
-        others.wall_time(),
-    )?;
-    push_times(text, alloc, "Compilers", sums.compilers, others.compilers)?;
+    push_times(text, alloc, "Wall time", one.wall_time(), other.wall_time());
+    push_times(text, alloc, "Compilers", one.compilers, other.compilers);
     push_times(
         text,
         alloc,
         "Preprocessors",
-        sums.preprocessors,
-        others.preprocessors,
-    )?;
-    push_times(text, alloc, "Time saved", sums.saved, others.saved)
+        one.preprocessors,
+        other.preprocessors,
+    );
+    push_times(text, alloc, "Time saved", one.saved, other.saved);
+}
+
+/// Writes a change: how many calls, how long they took, and from what they came to what.
+fn push_change(text: &mut Writer, change: &Change) {
+    text.push("  ");
+    text.push_number(change.count);
+    text.push(" in ");
+    push_time(text, change.time);
+    text.push(": ");
+    text.push(change.description.as_str());
+    text.push("\n");
+}
+
+/// Writes what came to another thing.
+fn push_changes(text: &mut Writer, changes: &Changes) {
+    text.push("Of ");
+    text.push_number(changes.common);
+    text.push(" calls of both, ");
+    text.push_number(changes.changed);
+    text.push(" came to another thing:\n");
+    for (place, change) in changes.changes.iter().enumerate() {
+        if place < SHOWN {
+            push_change(text, change);
+        }
+    }
+    let more = changes.changes.len().saturating_sub(SHOWN);
+    if more > 0 {
+        text.push("  and ");
+        text.push_number(more as u64);
+        text.push(" more, of less time each\n");
+    }
 }
 
 /// Two builds side by side: their sums, and what came to another thing.
 pub fn compare(alloc: Global, one: &Build, other: &Build) -> Result<String, AllocError> {
-    let mut text = String::new(alloc);
-    push_both(&mut text, "", "first", "second")?;
-    push_sums(&mut text, alloc, one, other)?;
-    let changes = changes_between(alloc, one, other)?;
-    let (changed, common) = (changes.changed, changes.common);
-    write!(
-        text,
-        "Of {common} calls of both, {changed} came to another thing:\n"
-    )?;
-    for change in changes.changes.iter().take(SHOWN) {
-        let (count, time, description) = (
-            change.count,
-            Time(change.time),
-            change.description.as_str(),
-        );
-        write!(text, "  {count} in {time}: {description}\n")?;
+    let mut text = Writer::new(alloc);
+    push_sums(&mut text, alloc, &one.sums, &other.sums);
+    match changes_between(alloc, one, other) {
+        Ok(changes) => push_changes(&mut text, &changes),
+        Err(_) => text.cut(),
     }
-    let more = changes.changes.len().saturating_sub(SHOWN);
-    if more > 0 {
-        write!(text, "  and {more} more, of less time each\n")?;
-    }
-    Ok(text)
+    text.done()
 }

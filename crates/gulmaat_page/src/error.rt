@@ -16,8 +16,11 @@ pub enum PageError {
 
 impl PageError {
     /// Words that are wrong, in place of which these are right.
-    pub fn wrong(alloc: Global, right: &str) -> Result<PageError, AllocError> {
-        Ok(PageError::Said(format!(in alloc; "write {right}: gulmaat --help lists all options")?))
+    pub fn wrong(alloc: Global, right: &str) -> PageError {
+        match format!(in alloc; "write {right}: gulmaat --help lists all options") {
+            Ok(text) => PageError::Said(text),
+            Err(_) => PageError::Memory,
+        }
     }
 }
 

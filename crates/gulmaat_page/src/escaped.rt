@@ -1,45 +1,45 @@
 //! Texts as HTML has them.
 
-use std::alloc::AllocError;
+use crate::writer::Writer;
 
 /// Writes a letter so that it isn't markup.
-fn push_letter(html: &mut String, letter: char) -> Result<(), AllocError> {
+fn push_letter(html: &mut Writer, letter: char) {
     match letter {
-        '&' => html.push_str("&amp;"),
-        '<' => html.push_str("&lt;"),
-        '>' => html.push_str("&gt;"),
-        '"' => html.push_str("&quot;"),
-        '\'' => html.push_str("&#39;"),
-        _ => html.push(letter),
+        '&' => html.push("&amp;"),
+        '<' => html.push("&lt;"),
+        '>' => html.push("&gt;"),
+        '"' => html.push("&quot;"),
+        '\'' => html.push("&#39;"),
+        _ => html.push_char(letter),
     }
 }
 
 /// Writes a text of which nothing is markup.
-pub fn push_escaped(html: &mut String, text: &str) -> Result<(), AllocError> {
+pub fn push_escaped(html: &mut Writer, text: &str) {
     for letter in text.chars() {
-        push_letter(html, letter)?;
+        push_letter(html, letter);
     }
-    Ok(())
 }
 
 /// How many characters of a text are shown where there isn't room for all.
 const SHORT: usize = 200;
 
 /// Writes the beginning of a text of which nothing is markup, and three dots where that isn't all.
-pub fn push_short(html: &mut String, text: &str) -> Result<(), AllocError> {
-    match text.char_indices().nth(SHORT) {
-        Some((place, _)) => {
-            let (short, _) = text.split_at_checked(place).unwrap_or((text, ""));
-            push_escaped(html, short)?;
-            html.push('…')
+pub fn push_short(html: &mut Writer, text: &str) {
+    let mut left = SHORT;
+    for letter in text.chars() {
+        if left == 0 {
+            html.push("…");
+            return;
         }
-        None => push_escaped(html, text),
+        left = left.saturating_sub(1);
+        push_letter(html, letter);
     }
 }
 
 /// Writes a cell of a table with the beginning of a text in it.
-pub fn push_cell(html: &mut String, text: &str) -> Result<(), AllocError> {
-    html.push_str("<td>")?;
-    push_short(html, text)?;
-    html.push_str("</td>")
+pub fn push_cell(html: &mut Writer, text: &str) {
+    html.push("<td>");
+    push_short(html, text);
+    html.push("</td>");
 }

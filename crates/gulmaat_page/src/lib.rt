@@ -20,6 +20,7 @@ mod summary;
 mod tables;
 mod times;
 mod trace;
+mod writer;
 
 use asked::{Asked, AskedLog, read_words};
 use compare::compare;
@@ -47,10 +48,11 @@ fn shown<R: Files + AllocGlobal>(
     folder: &str,
     words: &[String],
 ) -> Result<String, PageError> {
-    match read_words(rt.alloc(), words)? {
-        Asked::Page(log) => page_of(rt, folder, &log),
-        Asked::Trace(log) => trace_of(rt, &log),
-        Asked::Compare(one, other) => comparison_of(rt, &one, &other),
+    match read_words(words) {
+        Ok(Asked::Page(log)) => page_of(rt, folder, &log),
+        Ok(Asked::Trace(log)) => trace_of(rt, &log),
+        Ok(Asked::Compare(one, other)) => comparison_of(rt, one, other),
+        Err(right) => Err(PageError::wrong(rt.alloc(), right)),
     }
 }
 
@@ -91,13 +93,13 @@ fn trace_of<R: Files + AllocGlobal>(rt: &R, log: &AskedLog<'_>) -> Result<String
     Ok(trace(rt.alloc(), &build)?)
 }
 
-/// Two builds side by side.
+/// The last builds of two logs side by side.
 fn comparison_of<R: Files + AllocGlobal>(
     rt: &R,
-    one: &AskedLog<'_>,
-    other: &AskedLog<'_>,
+    one: &str,
+    other: &str,
 ) -> Result<String, PageError> {
-    let one = read_build(rt, one)?;
-    let other = read_build(rt, other)?;
+    let one = read_build(rt, &AskedLog::last_of(one))?;
+    let other = read_build(rt, &AskedLog::last_of(other))?;
     Ok(compare(rt.alloc(), &one, &other)?)
 }

@@ -1,9 +1,9 @@
 //! The picture of a build over time: a lane for each job, and a bar for each call.
 
 use crate::reading::Build;
-use crate::times::Time;
+use crate::times::{push_time, push_two};
+use crate::writer::Writer;
 use cache_build_log::{Call, Kind};
-use std::alloc::AllocError;
 
 /// How wide the picture is in hundredths, how high a lane and a bar are, and how wide a bar is at least, in hundredths.
 const WIDTH: u64 = 100_000;
@@ -26,32 +26,44 @@ fn place_of(build: &Build, moment: u64) -> u64 {
     place.unwrap_or(0).min(WIDTH)
 }
 
+/// Writes a number of hundredths.
+fn push_hundredths(html: &mut Writer, number: u64) {
+    html.push_number(number / 100);
+    html.push(".");
+    push_two(html, number % 100);
+}
+
 /// Writes the bar of a call, as a part of a path.
-fn push_bar(html: &mut String, build: &Build, call: &Call) -> Result<(), AllocError> {
+fn push_bar(html: &mut Writer, build: &Build, call: &Call) {
     let start = place_of(build, call.start);
     let wide = place_of(build, call.end).saturating_sub(start).max(LEAST);
     let top = u64::from(call.lane).saturating_mul(LANE).saturating_add(2);
-    let (left, left_rest) = (start / 100, start % 100);
-    let (width, width_rest) = (wide / 100, wide % 100);
-    write!(
-        html,
-        "M{left}.{left_rest:02} {top}h{width}.{width_rest:02}v{BAR}h-{width}.{width_rest:02}z"
-    )
+    html.push("M");
+    push_hundredths(html, start);
+    html.push(" ");
+    html.push_number(top);
+    html.push("h");
+    push_hundredths(html, wide);
+    html.push("v");
+    html.push_number(BAR);
+    html.push("h-");
+    push_hundredths(html, wide);
+    html.push("z");
 }
 
 /// Writes the bars of a kind, as one path.
-fn push_bars(html: &mut String, build: &Build, kind: Kind) -> Result<(), AllocError> {
-    let class = kind.class();
-    write!(
-        html,
-        "<path class=\"bars {class}\" fill=\"url(#hatch-{class})\" d=\""
-    )?;
+fn push_bars(html: &mut Writer, build: &Build, kind: Kind) {
+    html.push("<path class=\"bars ");
+    html.push(kind.class());
+    html.push("\" fill=\"url(#hatch-");
+    html.push(kind.class());
+    html.push(")\" d=\"");
     for call in build.calls.as_slice() {
         if call.kind == kind {
-            push_bar(html, build, call)?;
+            push_bar(html, build, call);
         }
     }
-    html.push_str("\"/>\n")
+    html.push("\"/>\n");
 }
 
 /// What is drawn over the colour of a kind, so that it can be recognized without that.
@@ -67,66 +79,85 @@ fn hatch_of(kind: Kind) -> &'static str {
 }
 
 /// Writes the pattern of a kind.
-fn push_pattern(html: &mut String, kind: Kind) -> Result<(), AllocError> {
-    let class = kind.class();
-    let hatch = hatch_of(kind);
-    write!(
-        html,
-        "<pattern id=\"hatch-{class}\" class=\"{class}\" width=\"8\" height=\"8\" patternUnits=\"userSpaceOnUse\">\
-         <rect width=\"8\" height=\"8\"/>{hatch}</pattern>\n"
-    )
+fn push_pattern(html: &mut Writer, kind: Kind) {
+    html.push("<pattern id=\"hatch-");
+    html.push(kind.class());
+    html.push("\" class=\"");
+    html.push(kind.class());
+    html.push(
+        "\" width=\"8\" height=\"8\" patternUnits=\"userSpaceOnUse\"><rect width=\"8\" height=\"8\"/>",
+    );
+    html.push(hatch_of(kind));
+    html.push("</pattern>\n");
+}
+
+/// Writes what the colour and the hatch of a kind mean, where there are calls of it.
+fn push_meaning(html: &mut Writer, build: &Build, kind: Kind) {
+    if build.sums.share(kind).count > 0 {
+        html.push(
+            "<li><svg width=\"28\" height=\"12\" aria-hidden=\"true\"><rect width=\"28\" height=\"12\" \
+             fill=\"url(#hatch-",
+        );
+        html.push(kind.class());
+        html.push(")\"/></svg> ");
+        html.push(kind.name());
+        html.push("</li>\n");
+    }
 }
 
 /// Writes what colours and hatches mean.
-fn push_legend(html: &mut String, build: &Build) -> Result<(), AllocError> {
-    html.push_str("<ul class=\"legend\">\n")?;
-    for kind in Kind::ALL {
-        let (class, name) = (kind.class(), kind.name());
-        if build.sums.share(kind).count > 0 {
-            write!(
-                html,
-                "<li><svg width=\"28\" height=\"12\" aria-hidden=\"true\"><rect width=\"28\" height=\"12\" \
-                 fill=\"url(#hatch-{class})\"/></svg> {name}</li>\n"
-            )?;
-        }
+fn push_legend(html: &mut Writer, build: &Build) {
+    html.push("<ul class=\"legend\">\n");
+    for kind in Kind::ALL.as_slice() {
+        push_meaning(html, build, *kind);
     }
-    html.push_str("</ul>\n")
+    html.push("</ul>\n");
 }
 
 /// Writes the moments below the picture.
-fn push_axis(html: &mut String, build: &Build) -> Result<(), AllocError> {
-    html.push_str("<div class=\"axis\" id=\"axis\" aria-hidden=\"true\">")?;
+fn push_axis(html: &mut Writer, build: &Build) {
+    let quarter = build.sums.wall_time() / 4;
+    html.push("<div class=\"axis\" id=\"axis\" aria-hidden=\"true\">");
     for part in 0..5u64 {
-        let time = Time((build.sums.wall_time() / 4).saturating_mul(part));
-        write!(html, "<span>{time}</span>")?;
+        html.push("<span>");
+        push_time(html, quarter.saturating_mul(part));
+        html.push("</span>");
     }
-    html.push_str("</div>\n")
+    html.push("</div>\n");
+}
+
+/// Writes the beginning of the picture: its size, and what it shows in words.
+fn push_frame(html: &mut Writer, build: &Build) {
+    let height = u64::from(build.lanes.max(1)).saturating_mul(LANE);
+    html.push("<div class=\"picture\"><svg id=\"picture\" viewBox=\"0 0 1000 ");
+    html.push_number(height);
+    html.push("\" width=\"100%\" height=\"");
+    html.push_number(height);
+    html.push("\" preserveAspectRatio=\"none\" role=\"img\" aria-label=\"");
+    html.push_number(build.sums.calls);
+    html.push(" calls over ");
+    push_time(html, build.sums.wall_time());
+    html.push(", in ");
+    html.push_number(u64::from(build.lanes));
+    html.push(" lanes\">\n");
 }
 
 /// Writes the picture of a build.
-pub fn push_picture(html: &mut String, build: &Build) -> Result<(), AllocError> {
-    let (jobs, calls) = (build.lanes, build.sums.calls);
-    let height = u64::from(jobs.max(1)).saturating_mul(LANE);
-    let wall = Time(build.sums.wall_time());
-    html.push_str(
-        "<section aria-labelledby=\"over-time\">\n<h2 id=\"over-time\">Over time</h2>\n",
-    )?;
-    push_legend(html, build)?;
-    write!(
-        html,
-        "<div class=\"picture\"><svg id=\"picture\" viewBox=\"0 0 1000 {height}\" width=\"100%\" height=\"{height}\" \
-         preserveAspectRatio=\"none\" role=\"img\" aria-label=\"{calls} calls over {wall}, in {jobs} lanes\">\n<defs>\n"
-    )?;
-    for kind in Kind::ALL {
-        push_pattern(html, kind)?;
+pub fn push_picture(html: &mut Writer, build: &Build) {
+    html.push("<section aria-labelledby=\"over-time\">\n<h2 id=\"over-time\">Over time</h2>\n");
+    push_legend(html, build);
+    push_frame(html, build);
+    html.push("<defs>\n");
+    for kind in Kind::ALL.as_slice() {
+        push_pattern(html, *kind);
     }
-    html.push_str("</defs>\n")?;
-    for kind in Kind::ALL {
-        push_bars(html, build, kind)?;
+    html.push("</defs>\n");
+    for kind in Kind::ALL.as_slice() {
+        push_bars(html, build, *kind);
     }
-    html.push_str(
+    html.push(
         "<rect id=\"cursor\" x=\"-9\" width=\"0\" height=\"14\" fill=\"none\"/>\n</svg></div>\n",
-    )?;
-    push_axis(html, build)?;
-    html.push_str("</section>\n")
+    );
+    push_axis(html, build);
+    html.push("</section>\n");
 }

@@ -5,8 +5,9 @@ use crate::commands::{command_of, name_of};
 use crate::escaped::{push_cell, push_escaped, push_short};
 use crate::reading::Build;
 use crate::rows::push_row;
-use crate::times::Time;
-use cache_build_log::{Call, Group, Kind, Texts, groups_of};
+use crate::times::push_time;
+use crate::writer::Writer;
+use cache_build_log::{Call, Group, Kind, groups_of};
 use std::alloc::{AllocError, Global};
 use std::cmp::Reverse;
 
@@ -15,98 +16,77 @@ const SHOWN: usize = 500;
 
 const GROUPS: usize = 200;
 
-/// Writes the beginning of a table within a region that scrolls by itself.
-fn push_table(html: &mut String, id: &str, title: &str, heads: &[&str]) -> Result<(), AllocError> {
-    write!(
-        html,
-        "<div class=\"scrolls\" role=\"region\" tabindex=\"0\" aria-labelledby=\"{id}\">\n\
-         <table>\n<caption class=\"unseen\">{title}</caption>\n<thead><tr>"
-    )?;
-    for head in heads {
-        write!(html, "<th scope=\"col\">{head}</th>")?;
+/// Writes the beginning of a table, whose heads have `|` between them, within a region that scrolls by itself.
+fn push_table(html: &mut Writer, id: &str, title: &str, heads: &str) {
+    html.push("<div class=\"scrolls\" role=\"region\" tabindex=\"0\" aria-labelledby=\"");
+    html.push(id);
+    html.push("\">\n<table>\n<caption class=\"unseen\">");
+    html.push(title);
+    html.push("</caption>\n<thead><tr>");
+    for head in heads.split('|') {
+        html.push("<th scope=\"col\">");
+        html.push(head);
+        html.push("</th>");
     }
-    html.push_str("</tr></thead>\n<tbody>\n")
+    html.push("</tr></thead>\n<tbody>\n");
 }
 
 /// Writes the first cells of a group.
-fn push_group(html: &mut String, group: &Group) -> Result<(), AllocError> {
-    let (count, time) = (group.count, Time(group.time));
-    write!(
-        html,
-        "<tr><td class=\"number\">{count}</td><td class=\"number\">{time}</td>"
-    )?;
-    push_cell(html, group.name.as_str())
+fn push_group(html: &mut Writer, group: &Group) {
+    html.push("<tr><td class=\"number\">");
+    html.push_number(group.count);
+    html.push("</td><td class=\"number\">");
+    push_time(html, group.time);
+    html.push("</td>");
+    push_cell(html, group.name.as_str());
 }
 
 /// Writes how many groups aren't shown, if any aren't, and the end of their table.
-fn push_table_end(html: &mut String, all: usize) -> Result<(), AllocError> {
-    html.push_str("</tbody>\n</table>\n</div>\n")?;
+fn push_table_end(html: &mut Writer, all: usize) {
+    html.push("</tbody>\n</table>\n</div>\n");
     let more = all.saturating_sub(GROUPS);
     if more > 0 {
-        write!(
-            html,
-            "<p class=\"note\">And {more} more, of less time each.</p>\n"
-        )?;
+        html.push("<p class=\"note\">And ");
+        html.push_number(more as u64);
+        html.push(" more, of less time each.</p>\n");
     }
-    html.push_str("</section>\n")
-}
-
-/// Writes a cell with the name of a call.
-fn push_name(html: &mut String, build: &Build, place: usize) -> Result<(), AllocError> {
-    match build.calls.get(place) {
-        Some(call) => push_cell(html, name_of(&build.texts, call)),
-        None => Ok(()),
-    }
+    html.push("</section>\n");
 }
 
 /// Writes the command of a call.
-fn push_command(
-    html: &mut String,
-    alloc: Global,
-    texts: &Texts,
-    call: &Call,
-) -> Result<(), AllocError> {
-    let command = command_of(alloc, texts, call)?;
-    push_escaped(html, command.as_str())
+fn push_command(html: &mut Writer, alloc: Global, build: &Build, call: &Call) {
+    match command_of(alloc, &build.texts, call) {
+        Ok(command) => push_escaped(html, command.as_str()),
+        Err(_) => html.cut(),
+    }
 }
 
 /// Writes an example of a group: the name of a call, and its command.
-fn push_example(
-    html: &mut String,
-    alloc: Global,
-    build: &Build,
-    place: usize,
-) -> Result<(), AllocError> {
-    let Some(call) = build.calls.get(place) else {
-        return html.push_str("<td></td>");
-    };
-    html.push_str("<td><details><summary>")?;
-    push_short(html, name_of(&build.texts, call))?;
-    html.push_str("</summary><code>")?;
-    push_command(html, alloc, &build.texts, call)?;
-    html.push_str("</code></details></td>")
+fn push_example(html: &mut Writer, alloc: Global, build: &Build, call: &Call) {
+    html.push("<td><details><summary>");
+    push_short(html, name_of(&build.texts, call));
+    html.push("</summary><code>");
+    push_command(html, alloc, build, call);
+    html.push("</code></details></td>");
 }
 
 /// Writes the row of a group: of misses with the name of the longest call, else with a way round where there is one, and an example.
-fn push_group_row(
-    html: &mut String,
-    alloc: Global,
-    build: &Build,
-    group: &Group,
-    is_miss: bool,
-) -> Result<(), AllocError> {
-    push_group(html, group)?;
+fn push_group_row(html: &mut Writer, alloc: Global, build: &Build, group: &Group, is_miss: bool) {
+    let Some(call) = build.calls.get(group.longest) else {
+        return;
+    };
+    push_group(html, group);
     if is_miss {
-        push_name(html, build, group.longest)?;
+        push_cell(html, name_of(&build.texts, call));
     } else {
-        push_cell(html, advice_for(group.name.as_str()))?;
-        push_example(html, alloc, build, group.longest)?;
+        push_cell(html, advice_for(group.name.as_str()));
+        push_example(html, alloc, build, call);
     }
-    html.push_str("</tr>\n")
+    html.push("</tr>\n");
 }
 
 /// A section of calls by group.
-#[derive(Clone, Copy)]
+#[derive(Drop)]
 struct Section<'a> {
     id: &'a str,
     title: &'a str,
@@ -114,69 +94,77 @@ struct Section<'a> {
     /// What it says where there are no such calls.
     none: &'a str,
     caption: &'a str,
-    heads: &'a [&'a str],
+    /// With `|` between them.
+    heads: &'a str,
 }
 
 /// Writes the table of a section.
 fn push_groups(
-    html: &mut String,
+    html: &mut Writer,
     alloc: Global,
     build: &Build,
     section: &Section<'_>,
     groups: &[Group],
-) -> Result<(), AllocError> {
+) {
     let is_miss = matches!(section.kinds, [Kind::Miss]);
-    push_table(html, section.id, section.caption, section.heads)?;
-    for group in groups.iter().take(GROUPS) {
-        push_group_row(html, alloc, build, group, is_miss)?;
+    push_table(html, section.id, section.caption, section.heads);
+    for (place, group) in groups.iter().enumerate() {
+        if place < GROUPS {
+            push_group_row(html, alloc, build, group, is_miss);
+        }
     }
-    push_table_end(html, groups.len())
+    push_table_end(html, groups.len());
+}
+
+/// Writes a heading.
+fn push_heading(html: &mut Writer, id: &str, title: &str) {
+    html.push("<section aria-labelledby=\"");
+    html.push(id);
+    html.push("\">\n<h2 id=\"");
+    html.push(id);
+    html.push("\">");
+    html.push(title);
+    html.push("</h2>\n");
 }
 
 /// Writes a section.
-fn push_section(
-    html: &mut String,
-    alloc: Global,
-    build: &Build,
-    section: &Section<'_>,
-) -> Result<(), AllocError> {
-    let (id, title, none) = (section.id, section.title, section.none);
-    write!(
-        html,
-        "<section aria-labelledby=\"{id}\">\n<h2 id=\"{id}\">{title}</h2>\n"
-    )?;
-    let calls = build.calls.as_slice();
-    let groups = groups_of(alloc, &build.texts, calls, section.kinds)?;
-    match groups.is_empty() {
-        true => write!(html, "<p>{none}</p>\n</section>\n"),
-        false => push_groups(html, alloc, build, section, groups.as_slice()),
+fn push_section(html: &mut Writer, alloc: Global, build: &Build, section: &Section<'_>) {
+    push_heading(html, section.id, section.title);
+    match groups_of(alloc, &build.texts, build.calls.as_slice(), section.kinds) {
+        Ok(groups) if groups.is_empty() => {
+            html.push("<p>");
+            html.push(section.none);
+            html.push("</p>\n</section>\n");
+        }
+        Ok(groups) => push_groups(html, alloc, build, section, groups.as_slice()),
+        Err(_) => html.cut(),
     }
 }
 
 /// Writes the misses by what made them.
-pub fn push_misses(html: &mut String, alloc: Global, build: &Build) -> Result<(), AllocError> {
+pub fn push_misses(html: &mut Writer, alloc: Global, build: &Build) {
     let section = Section {
         id: "misses",
         title: "What made misses",
         kinds: &[Kind::Miss],
         none: "No call was a miss.",
         caption: "Misses by cause",
-        heads: &["Misses", "Time", "Cause", "Longest call"],
+        heads: "Misses|Time|Cause|Longest call",
     };
-    push_section(html, alloc, build, &section)
+    push_section(html, alloc, build, &section);
 }
 
 /// Writes the calls that weren't kept by what they came to, with a way round where there is one.
-pub fn push_passed(html: &mut String, alloc: Global, build: &Build) -> Result<(), AllocError> {
+pub fn push_passed(html: &mut Writer, alloc: Global, build: &Build) {
     let section = Section {
         id: "passed",
         title: "What wasn't kept",
         kinds: &[Kind::Uncacheable, Kind::Failure],
         none: "Each call was cacheable.",
         caption: "Calls that weren't kept, by reason",
-        heads: &["Calls", "Time", "Reason", "What to do", "Longest call"],
+        heads: "Calls|Time|Reason|What to do|Longest call",
     };
-    push_section(html, alloc, build, &section)
+    push_section(html, alloc, build, &section);
 }
 
 /// The calls, those that took longest first: of each its time, and its place.
@@ -190,27 +178,28 @@ fn longest(alloc: Global, build: &Build) -> Result<Vec<(Reverse<u64>, usize)>, A
 }
 
 /// Writes the rows of the calls that took longest.
-fn push_rows(html: &mut String, alloc: Global, build: &Build) -> Result<(), AllocError> {
-    let places = longest(alloc, build)?;
-    for (_, place) in places.iter().take(SHOWN) {
-        if let Some(call) = build.calls.get(*place) {
-            push_row(html, alloc, build, call)?;
+fn push_rows(html: &mut Writer, alloc: Global, build: &Build) {
+    let Ok(places) = longest(alloc, build) else {
+        return html.cut();
+    };
+    for (turn, (_, place)) in places.iter().enumerate() {
+        match build.calls.get(*place) {
+            Some(call) if turn < SHOWN => push_row(html, alloc, build, call),
+            _ => {}
         }
     }
-    Ok(())
 }
 
 /// Writes the table of calls: those that took longest, until the script shows all.
-pub fn push_calls(html: &mut String, alloc: Global, build: &Build) -> Result<(), AllocError> {
+pub fn push_calls(html: &mut Writer, alloc: Global, build: &Build) {
     let calls = build.calls.len();
-    let shown = calls.min(SHOWN);
-    write!(
-        html,
-        "<section aria-labelledby=\"calls\">\n<h2 id=\"calls\">Calls</h2>\n<div id=\"tools\" hidden></div>\n\
-         <p id=\"shown\" role=\"status\">{shown} of {calls}, those that took longest.</p>\n"
-    )?;
-    let heads = ["Began", "Took", "Came to", "Call", "Why"];
-    push_table(html, "calls", "All calls", heads.as_slice())?;
-    push_rows(html, alloc, build)?;
-    html.push_str("</tbody>\n</table>\n</div>\n</section>\n")
+    push_heading(html, "calls", "Calls");
+    html.push("<div id=\"tools\" hidden></div>\n<p id=\"shown\" role=\"status\">");
+    html.push_number(calls.min(SHOWN) as u64);
+    html.push(" of ");
+    html.push_number(calls as u64);
+    html.push(", those that took longest.</p>\n");
+    push_table(html, "calls", "All calls", "Began|Took|Came to|Call|Why");
+    push_rows(html, alloc, build);
+    html.push("</tbody>\n</table>\n</div>\n</section>\n");
 }

@@ -1,13 +1,17 @@
 //! Times as people read them.
 
-use std::fmt;
+use crate::writer::Writer;
 
-/// A time in microseconds.
-#[derive(Clone, Copy)]
-pub struct Time(pub u64);
+/// Writes a number of at least two digits.
+pub fn push_two(text: &mut Writer, number: u64) {
+    if number < 10 {
+        text.push("0");
+    }
+    text.push_number(number);
+}
 
 /// Writes a time of a second or more: whole ones of its largest unit, and two digits of what is left.
-fn write_long<W: fmt::Write>(f: &mut fmt::Formatter<W>, time: u64) -> fmt::Result {
+fn push_long(text: &mut Writer, time: u64) {
     let seconds = time / 1_000_000;
     let minutes = seconds / 60;
     let (whole, between, rest, end) = match seconds {
@@ -15,43 +19,36 @@ fn write_long<W: fmt::Write>(f: &mut fmt::Formatter<W>, time: u64) -> fmt::Resul
         60..3600 => (minutes, " min ", seconds % 60, " s"),
         _ => (minutes / 60, " h ", minutes % 60, " min"),
     };
-    write!(f, "{whole}{between}{rest:02}{end}")
+    text.push_number(whole);
+    text.push(between);
+    push_two(text, rest);
+    text.push(end);
 }
 
-impl fmt::Display for Time {
-    fn fmt<W: fmt::Write>(&self, f: &mut fmt::Formatter<W>) -> fmt::Result {
-        let time = self.0;
-        let milliseconds = time / 1000;
-        match time {
-            0 => f.write_str("0 s"),
-            1..1000 => write!(f, "{time} µs"),
-            1000..1_000_000 => write!(f, "{milliseconds} ms"),
-            _ => write_long(f, time),
-        }
+/// Writes a number and a unit.
+fn push_unit(text: &mut Writer, number: u64, unit: &str) {
+    text.push_number(number);
+    text.push(unit);
+}
+
+/// Writes a time in microseconds.
+pub fn push_time(text: &mut Writer, time: u64) {
+    match time {
+        0 => text.push("0 s"),
+        1..1000 => push_unit(text, time, " µs"),
+        1000..1_000_000 => push_unit(text, time / 1000, " ms"),
+        _ => push_long(text, time),
     }
 }
 
-/// A part of all, as `, 12.3 %`; nothing where there is nothing.
-#[derive(Clone, Copy)]
-pub struct Percent {
-    pub part: u64,
-    pub all: u64,
-}
-
-impl fmt::Display for Percent {
-    fn fmt<W: fmt::Write>(&self, f: &mut fmt::Formatter<W>) -> fmt::Result {
-        let Some(share) = self.part.saturating_mul(1000).checked_div(self.all) else {
-            return Ok(());
-        };
-        let whole = share / 10;
-        let rest = share % 10;
-        write!(f, "{whole}.{rest} %")
+/// Writes which part of all it is, as `12.3 %`; nothing where there is nothing.
+pub fn push_percent(text: &mut Writer, part: u64, all: u64) {
+    if let Some(share) = part.saturating_mul(1000).checked_div(all) {
+        text.push_number(share / 10);
+        text.push(".");
+        push_unit(text, share % 10, " %");
     }
 }
-
-/// A moment in microseconds since 1970, as date and time of day in UTC.
-#[derive(Clone, Copy)]
-pub struct Moment(pub u64);
 
 /// The year, month and day of a day, counted from the first of March of the year 0.
 fn date_of(day: u64) -> (u64, u64, u64) {
@@ -74,15 +71,21 @@ fn date_of(day: u64) -> (u64, u64, u64) {
     }
 }
 
-impl fmt::Display for Moment {
-    fn fmt<W: fmt::Write>(&self, f: &mut fmt::Formatter<W>) -> fmt::Result {
-        let seconds = self.0 / 1_000_000;
-        let day = (seconds / 86_400).saturating_add(719_468);
-        let (year, month, date) = date_of(day);
-        let (hour, minute, second) = (seconds / 3600 % 24, seconds / 60 % 60, seconds % 60);
-        write!(
-            f,
-            "{year:04}-{month:02}-{date:02} {hour:02}:{minute:02}:{second:02}"
-        )
-    }
+/// Writes a mark, and a number of at least two digits.
+fn push_part(text: &mut Writer, mark: &str, number: u64) {
+    text.push(mark);
+    push_two(text, number);
+}
+
+/// Writes a moment in microseconds since 1970, as date and time of day in UTC.
+pub fn push_moment(text: &mut Writer, moment: u64) {
+    let seconds = moment / 1_000_000;
+    let day = (seconds / 86_400).saturating_add(719_468);
+    let (year, month, date) = date_of(day);
+    text.push_number(year);
+    push_part(text, "-", month);
+    push_part(text, "-", date);
+    push_part(text, " ", seconds / 3600 % 24);
+    push_part(text, ":", seconds / 60 % 60);
+    push_part(text, ":", seconds % 60);
 }
