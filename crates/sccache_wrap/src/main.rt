@@ -2,9 +2,6 @@
 //! argument it also prints why they were compiled. With `--report` it reads a recorded build and prints what a cache would keep of it.
 #![tactic(auto)]
 
-#[cfg(test)]
-mod tests;
-
 use sccache_reports::ReportFault;
 use sccache_scenarios::{RunFault, run, run_explained};
 use std::fmt::Display;

@@ -10,7 +10,8 @@
 //!   `files fail: tool preprocess, tool compile,`.
 //!
 //! In each of these runs a request is answered the outputs of the first run, or the fault of the call that failed, and then its outputs
-//! when it is served again. Where it isn't so, a line says it: `not so: ..`.
+//! when it is served again. A build of the last request alone (`run_steps`) is answered the same. Where it isn't so, a line says it: `not
+//! so: ..`.
 //!
 //! With the argument `growths` each scenario is only served twice, and one allocation may be refused meanwhile: what is printed
 //! is then the same, or nothing, with status 2. `bin/refusals` refuses each allocation in turn.
@@ -20,12 +21,14 @@
 #![tactic(auto)]
 
 mod answers;
+mod builds;
 mod growths;
 mod readings;
 mod refusals;
 mod runs;
 mod stores;
 
+use crate::builds::push_built;
 use crate::growths::push_growths;
 use crate::readings::{push_key, push_record};
 use crate::refusals::push_refusals;
@@ -150,7 +153,11 @@ fn push_devices(alloc: Global, line: &[u8], text: &mut String) -> Result<(), Sto
 fn push_beside(alloc: Global, line: &[u8], plain: &Run, text: &mut String) -> Result<(), Stop> {
     let turns = plain.turns.as_slice();
     push_plain(plain, text)?;
-    push_refusals(alloc, line, turns, text)
+    push_refusals(alloc, line, turns, text)?;
+    match turns {
+        [.., last] => push_built(alloc, line, &last.answer, text),
+        [] => Ok(()),
+    }
 }
 
 /// Adds what came of the run in which nothing fails.
