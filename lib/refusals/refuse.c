@@ -1,7 +1,5 @@
 /* Refuses growths of memory, reads or writes, as a library that is loaded before the C library (bin/refusals).
  *
- * With REFUSED_GROWTH=N the Nth growth of the process is refused, and `refused` is said on standard error.
- *
  * With REFUSED_AFTER=TEXT each growth is refused after the first text that the process writes to standard error and that begins so, and
  * `refused` is said of each.
  *
@@ -31,7 +29,7 @@
 enum call { GROWTH, READ, WRITE };
 static enum call refused = GROWTH;
 /* How many such calls are left up to the one that is refused, and 0 after it. */
-static long left = -1;
+static long left = 0;
 /* Whether each is refused from now on. */
 static int is_each = 0;
 /* Whether reads and writes take one byte. */
@@ -41,10 +39,6 @@ static int *seen;
 
 static int is_refused(enum call call) {
     if (call != refused) return 0;
-    if (left < 0) {
-        const char *number = getenv("REFUSED_GROWTH");
-        left = number ? atol(number) : 0;
-    }
     if (!is_each && (left == 0 || --left > 0)) return 0;
     if (seen) *seen = 1;
     else if (write(2, "refused\n", 8) != 8) _exit(3);
@@ -165,7 +159,6 @@ static struct text text_named(const char *variable) {
 /* Reads what is refused, and how, and what is expected. Gives the name of what is refused. */
 static const char *begin(void) {
     const char *device = getenv("DEVICE");
-    left = 0;
     is_bytewise = getenv("BYTEWISE") != NULL;
     due = text_named("EXPECTED");
     others = text_named("REFUSED");

@@ -2,7 +2,6 @@
 //! writer of little room, and texts that are compared.
 #![tactic(auto)]
 
-mod broken_files;
 mod fail_files;
 mod fail_tool;
 mod narrow_writer;
@@ -10,7 +9,6 @@ mod rows;
 mod texts;
 mod watched_files;
 
-pub use broken_files::BrokenFiles;
 pub use fail_files::FailFiles;
 pub use fail_tool::FailTool;
 pub use narrow_writer::NarrowWriter;
