@@ -1,13 +1,11 @@
-//! Digests that FIPS 180 prints, however the bytes come, and readers that fail.
+//! Digests that FIPS 180 prints, and readers that fail.
 
 use ckeys_base::Digest;
 use ckeys_base::error::Error;
 use sha2::Sha256;
 use std::alloc::Global;
-use std::io;
-use std::io::Read;
 use std::test::Fail;
-use tests_kit::{files_of, holds, is_that, prints, words};
+use tests_kit::{Checks, ShortReader, files_of, holds, is_that, words};
 
 /// The digest of nothing, the low half of each byte first.
 const OF_NOTHING: &str = "3e0b4c2489cfc141a9bf4f8c99f69b4272ea144e46b939c44a5999b187258b55";
@@ -24,73 +22,50 @@ const OF_TWO_BLOCKS: &str = "42d8a6162d60838b5e0c6239c0e306933ac34e9546ff12766fc
 /// The digest of a million times `a`, which the standard prints as `cdc76e5c..`.
 const OF_A_MILLION: &str = "dc7ce6c59941bf29181a7c2e487de3761f08a9844a7902e040d693cc7c11c20d";
 
-/// These bytes have this digest, by pieces, and by a reader.
-fn is_digested(alloc: Global, bytes: &[u8], want: &str) -> Result<(), Fail> {
-    let mut digest: Digest<Sha256> = Digest::new();
-    for piece in bytes.chunks(5) {
-        digest.update(piece);
+/// Whether a reader of these bytes gives this digest.
+fn is_digested(alloc: Global, bytes: &[u8], want: &str) -> bool {
+    match Digest::<Sha256>::reader_sync(alloc, bytes) {
+        Ok(text) => text.as_str() == want,
+        Err(_) => false,
     }
-    is_that(digest.finish(alloc)?.as_str(), want, "pieces")?;
-    let text = Digest::<Sha256>::reader_sync(alloc, bytes)?;
-    is_that(text.as_str(), want, "a reader")
 }
-
-/// Messages, and their digests.
-const MESSAGES: [(&[u8], &str); 3] = [
-    (b"", OF_NOTHING),
-    (b"abc", OF_ABC),
-    (TWO_BLOCKS, OF_TWO_BLOCKS),
-];
 
 #[test]
 fn prints_the_digests_of_the_standard(rt: HostRuntime) -> Result<(), Fail> {
-    for (bytes, want) in MESSAGES.iter() {
-        is_digested(rt.alloc(), bytes, want)?;
-    }
-    // More bytes than the buffer of a reader holds.
+    let alloc = rt.alloc();
+    let mut checks = Checks::new(alloc);
+    checks.holds(is_digested(alloc, b"", OF_NOTHING), "nothing");
+    checks.holds(is_digested(alloc, b"abc", OF_ABC), "abc");
+    checks.holds(is_digested(alloc, TWO_BLOCKS, OF_TWO_BLOCKS), "two blocks");
+    checks.end()
+}
+
+#[test]
+fn more_is_read_than_a_buffer_holds(rt: HostRuntime) -> Result<(), Fail> {
     let long = vec![in rt.alloc(); b'a'; 1_000_000]?;
-    is_digested(rt.alloc(), &long, OF_A_MILLION)
-}
-
-/// Gives a byte a read, and then fails.
-#[derive(Drop)]
-struct Sips<'a> {
-    rest: &'a [u8],
-}
-
-impl<'a> Read for Sips<'a> {
-    fn read(&mut self, buf: &mut [u8]) -> io::Result<usize> {
-        let count = 1.min(buf.len()).min(self.rest.len());
-        if count == 0 {
-            return Err(io::Error::from(io::ErrorKind::Other));
-        }
-        buf[..count].copy_from_slice(&self.rest[..count]);
-        self.rest = &self.rest[count..];
-        Ok(count)
-    }
+    holds(is_digested(rt.alloc(), &long, OF_A_MILLION), "a million")
 }
 
 /// Three pieces were read before the failure, and none is empty.
 #[test]
 fn what_came_before_a_failure_is_shown(rt: HostRuntime) -> Result<(), Fail> {
     let mut shown = 0u64;
-    let sips = Sips { rest: b"abc" };
-    let text = Digest::<Sha256>::reader_sync_with(rt.alloc(), sips, |piece: &[u8]| {
-        let first = piece.first().copied().unwrap_or(0);
-        shown = shown.wrapping_mul(256).wrapping_add(u64::from(first));
+    let reader = ShortReader { left: 3 };
+    let text = Digest::<Sha256>::reader_sync_with(rt.alloc(), reader, |piece: &[u8]| {
+        if let [byte] = piece {
+            shown = shown.wrapping_mul(16).wrapping_add(u64::from(*byte));
+        }
     });
-    holds(shown == 0x61_62_63, "three pieces are shown")?;
-    holds(matches!(text, Err(Error::Io)), "the failure is told")
+    let is_told = matches!(text, Err(Error::Io));
+    holds(is_told && shown == 0x321, "three pieces, and the failure")
 }
 
 #[test]
 fn errors_are_printed(rt: HostRuntime) -> Result<(), Fail> {
-    prints(
-        rt.alloc(),
-        &Error::Io,
-        "the bytes cannot be read or written",
-    )?;
-    prints(rt.alloc(), &Error::Memory, "no memory was left")
+    let mut checks = Checks::new(rt.alloc());
+    checks.prints(&Error::Io, "the bytes cannot be read or written");
+    checks.prints(&Error::Memory, "no memory was left");
+    checks.end()
 }
 
 /// A delimiter is a zero byte, `SCCACHE`, a zero byte, the name and a zero byte: `sha256sum` prints `285584ef..` of them after an `a`.
@@ -108,14 +83,21 @@ fn a_delimiter_is_its_bytes(rt: HostRuntime) -> Result<(), Fail> {
 
 #[test]
 fn files_are_digested_in_order(rt: HostRuntime) -> Result<(), Fail> {
-    let alloc = rt.alloc();
-    let mut files = files_of(alloc, &[("/w/abc", b"abc".as_slice()), ("/w/empty", b"")])?;
-    let names = words(alloc, "/w/abc /w/empty")?;
-    let all = Digest::<Sha256>::hash_all(alloc, &names, &mut files)?;
-    let want = format!(in alloc; "Some([{OF_ABC:?}, {OF_NOTHING:?}])")?;
-    is_that(
-        format!(in alloc; "{all:?}")?.as_str(),
-        want.as_str(),
-        "two files",
-    )
+    let names = words(rt.alloc(), "/w/abc /w/empty")?;
+    let mut files = files_of(
+        rt.alloc(),
+        &[("/w/abc", b"abc".as_slice()), ("/w/empty", b"")],
+    )?;
+    let found = Digest::<Sha256>::hash_all(rt.alloc(), &names, &mut files);
+    drop(files);
+    let Ok(Some(all)) = found else {
+        return Err("no digests".into());
+    };
+    match all.as_slice() {
+        [abc, nothing] => holds(
+            abc.as_str() == OF_ABC && nothing.as_str() == OF_NOTHING,
+            "two files",
+        ),
+        _ => Err("not two digests".into()),
+    }
 }

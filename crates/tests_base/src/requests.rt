@@ -1,6 +1,5 @@
 //! What is asked of a request, and a compiler as it is shown.
 
-use crate::faults::is_shown;
 use base_files::{Listed, OsBytes};
 use cmdlines::Gcc;
 use cmdlines_base::{ArtifactDescriptor, ColorMode};
@@ -8,7 +7,7 @@ use cmdlines_tables::language::Language;
 use cmdlines_tables::{DependencyOptions, ParsedArguments};
 use std::alloc::{AllocError, Global};
 use std::test::Fail;
-use tests_kit::{is_that, words};
+use tests_kit::{holds, is_that, words};
 
 /// A request with these outputs and words on architectures, and nothing else.
 fn request(
@@ -39,64 +38,53 @@ fn request(
     }
 }
 
-/// An output of that name at that path.
-fn output(
-    alloc: Global,
-    name: &str,
-    path: &[u8],
-) -> Result<(OsBytes, ArtifactDescriptor), AllocError> {
+/// The one output, the object, at that path.
+fn object(alloc: Global, path: &[u8]) -> Result<Vec<(OsBytes, ArtifactDescriptor)>, AllocError> {
     let path = OsBytes::from_slice(alloc, path)?;
-    let name = OsBytes::from_slice(alloc, name.as_bytes())?;
+    let name = OsBytes::from_slice(alloc, b"obj")?;
     let optional = false;
-    Ok((name, ArtifactDescriptor { path, optional }))
+    let mut outputs = Vec::new(alloc);
+    outputs.push((name, ArtifactDescriptor { path, optional }))?;
+    Ok(outputs)
 }
 
-/// How the name of the object is shown of a request with one output, of that name at that path.
-fn shown(alloc: Global, name: &str, path: &[u8]) -> Result<String, AllocError> {
-    let mut outputs = Vec::new(alloc);
-    outputs.push(output(alloc, name, path)?)?;
-    let request = request(alloc, outputs, Vec::new(alloc));
+/// The name of the object as text.
+fn pretty(alloc: Global, path: &[u8]) -> Result<String, AllocError> {
+    let request = request(alloc, object(alloc, path)?, Vec::new(alloc));
     let text = request.output_pretty(alloc);
     drop(request);
     text
 }
 
-/// Outputs by their names and paths, and how the name of the object is shown.
-const SHOWN: [(&str, &[u8], &str); 6] = [
-    ("obj", b"foo.o", "foo.o"),
-    ("obj", b"out/bar.o", "bar.o"),
-    ("obj", b"a/\xff.o", "\u{FFFD}.o"),
-    ("obj", b"..", "Unknown filename"),
-    ("obj", b"/", "Unknown filename"),
-    ("dia", b"foo.o", "Unknown filename"),
-];
-
 #[test]
 fn the_name_of_the_object_is_shown(rt: HostRuntime) -> Result<(), Fail> {
-    for (name, path, want) in SHOWN.iter() {
-        is_that(shown(rt.alloc(), name, path)?.as_str(), want, want)?;
-    }
-    Ok(())
+    let text = pretty(rt.alloc(), b"a/\xff.o")?;
+    is_that(text.as_str(), "\u{FFFD}.o", "a name that is no text")
 }
 
-/// Asserts which architectures a request with these words has, as lists of bytes.
-fn has_architectures(alloc: Global, line: &str, want: &str) -> Result<(), Fail> {
-    let request = request(alloc, Vec::new(alloc), words(alloc, line)?);
-    let has = is_shown(alloc, request.archs(alloc), want);
-    drop(request);
-    has
+/// Whether the request has these architectures alone, in this order.
+fn has_architectures(alloc: Global, request: &ParsedArguments) -> bool {
+    match request.archs(alloc) {
+        Ok(archs) => matches!(archs.as_slice(), [[b'b'], [b'a']]),
+        Err(_) => false,
+    }
 }
 
 #[test]
 fn architectures_are_listed_once(rt: HostRuntime) -> Result<(), Fail> {
-    let words = "-arch b -arch a -arch -arch b";
-    has_architectures(rt.alloc(), words, "Ok([[98], [97]])")
+    let words = words(rt.alloc(), "-arch b -arch a -arch -arch b")?;
+    let request = request(rt.alloc(), Vec::new(rt.alloc()), words);
+    let has = has_architectures(rt.alloc(), &request);
+    drop(request);
+    holds(has, "b, and then a")
 }
 
 /// A compiler is shown without its tables.
 #[test]
 fn a_compiler_is_shown(rt: HostRuntime) -> Result<(), Fail> {
     let gcc = Gcc::new(rt.alloc(), true, None, None)?;
+    let shown = format!(in rt.alloc(); "{gcc:?}");
+    drop(gcc);
     let want = "FoundCompiler { kind: Gcc, plusplus: true, version: None, assembler_digest: None }";
-    is_shown(rt.alloc(), gcc, want)
+    is_that(shown?.as_str(), want, "gcc")
 }

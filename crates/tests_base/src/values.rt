@@ -1,68 +1,75 @@
-//! Values as the words and the texts that they print, the first word of an argument, and words cut in two.
+//! A value as a text, the first word of an argument, and words cut in two.
 
-use crate::faults::is_shown;
 use base_files::OsBytes;
-use cmdlines_base::{ArgDisposition, Argument, ArgumentValue, split_os_string_arg};
-use cmdlines_tables::ArgData;
-use cmdlines_tables::kind::ArgKind;
+use cmdlines_base::{
+    ArgDisposition, ArgParseResult, ArgToStringResult, Argument, IntoArg, split_os_string_arg,
+};
 use std::alloc::Global;
 use std::test::Fail;
+use tests_kit::{Checks, holds};
 
 fn refuse(_path: &[u8]) -> Option<String> {
     None
 }
 
-/// Asserts which word and which text the value of an option prints that was read of `a b`: none is a path, so that no transformer is asked.
-fn prints<T: ArgumentValue>(alloc: Global, kind: T::Kind, want: &str) -> Result<(), Fail> {
-    let value = T::of_word(alloc, kind, b"a b")?;
-    is_shown(alloc, value.into_arg_os_string(alloc), want)?;
-    is_shown(alloc, value.into_arg_string(alloc, &mut refuse), want)
+/// The value `a b` as text: it is no path, so that no transformer is asked.
+fn text_of_a_value(alloc: Global) -> ArgToStringResult {
+    OsBytes::from_slice(alloc, b"a b")?.into_arg_string(alloc, &mut refuse)
 }
 
 #[test]
-fn values_print_what_they_read(rt: HostRuntime) -> Result<(), Fail> {
-    prints::<OsBytes>(rt.alloc(), (), r#"Ok("a b")"#)?;
-    prints::<String>(rt.alloc(), (), r#"Ok("a b")"#)?;
-    prints::<()>(rt.alloc(), (), r#"Ok("")"#)?;
-    prints::<ArgData>(rt.alloc(), ArgKind::Output, r#"Ok("a b")"#)
+fn a_value_has_a_text(rt: HostRuntime) -> Result<(), Fail> {
+    match text_of_a_value(rt.alloc()) {
+        Ok(text) => holds(text.as_str() == "a b", "a b"),
+        Err(_) => Err("no text".into()),
+    }
 }
 
 #[test]
 fn the_flag_comes_first(rt: HostRuntime) -> Result<(), Fail> {
     let inc = OsBytes::from_slice(rt.alloc(), b"inc")?;
     let argument = Argument::WithValue("-I", inc, ArgDisposition::Concatenated(None));
-    let shown = is_shown(rt.alloc(), argument.to_os_string(rt.alloc()), r#"Ok("-I")"#);
+    let first = argument.to_os_string(rt.alloc());
     drop(argument);
-    shown
+    holds(first?.as_bytes() == b"-I".as_slice(), "the flag")
 }
 
-/// Asserts what comes before and after a separator.
-fn is_split(alloc: Global, word: &[u8], separator: &str, want: &str) -> Result<(), Fail> {
-    let word = OsBytes::from_slice(alloc, word)?;
-    is_shown(alloc, split_os_string_arg(alloc, word, separator), want)
+/// A word cut in two.
+fn split(alloc: Global, word: &[u8], separator: &str) -> ArgParseResult<(String, Option<String>)> {
+    split_os_string_arg(alloc, OsBytes::from_slice(alloc, word)?, separator)
 }
 
-/// Words, separators, and what comes before and after them.
-const SPLIT: [(&[u8], &str, &str); 9] = [
-    (b"a=b=c", "=", r#"Ok(("a", Some("b=c")))"#),
-    (b"a", "=", r#"Ok(("a", None))"#),
-    (b"a=", "=", r#"Ok(("a", Some("")))"#),
-    (b"=a", "=", r#"Ok(("", Some("a")))"#),
-    (b"", "=", r#"Ok(("", None))"#),
-    (b"a::b::c", "::", r#"Ok(("a", Some("b::c")))"#),
-    (b"a:b", "::", r#"Ok(("a:b", None))"#),
-    (
-        b"\xc3\xa9=\xc3\xa9",
-        "=",
-        "Ok((\"\u{e9}\", Some(\"\u{e9}\")))",
-    ),
-    (b"a=\xff", "=", r#"Err(InvalidUnicode("a=\xff"))"#),
-];
+/// Whether that comes before the first separator of a word, and that after it.
+fn is_cut(alloc: Global, word: &[u8], separator: &str, before: &str, behind: &str) -> bool {
+    match split(alloc, word, separator) {
+        Ok((front, rest)) => match rest {
+            Some(rest) => front.as_str() == before && rest.as_str() == behind,
+            None => false,
+        },
+        Err(_) => false,
+    }
+}
+
+/// Whether a word has no separator.
+fn is_whole(alloc: Global, word: &[u8], separator: &str) -> bool {
+    match split(alloc, word, separator) {
+        Ok((front, rest)) => rest.is_none() && front.as_bytes() == word,
+        Err(_) => false,
+    }
+}
 
 #[test]
 fn words_are_cut_at_the_first_separator(rt: HostRuntime) -> Result<(), Fail> {
-    for (word, separator, want) in SPLIT.iter() {
-        is_split(rt.alloc(), word, separator, want)?;
-    }
-    Ok(())
+    let alloc = rt.alloc();
+    let mut checks = Checks::new(alloc);
+    checks.holds(is_cut(alloc, b"a=b=c", "=", "a", "b=c"), "a=b=c");
+    checks.holds(is_cut(alloc, b"a=", "=", "a", ""), "a=");
+    checks.holds(is_cut(alloc, b"=a", "=", "", "a"), "=a");
+    checks.holds(is_cut(alloc, b"a::b::c", "::", "a", "b::c"), "a::b::c");
+    let accents = b"\xc3\xa9=\xc3\xa9".as_slice();
+    checks.holds(is_cut(alloc, accents, "=", "\u{e9}", "\u{e9}"), "accents");
+    checks.holds(is_whole(alloc, b"a", "="), "a");
+    checks.holds(is_whole(alloc, b"", "="), "nothing");
+    checks.holds(is_whole(alloc, b"a:b", "::"), "a:b");
+    checks.end()
 }

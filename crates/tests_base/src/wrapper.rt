@@ -18,8 +18,9 @@ fn load(
     name: &str,
     canonical: &str,
 ) -> Result<(), AllocError> {
-    let time = FileTime::from_seconds(0);
+    let name = bytes(alloc, name)?;
     let canonical = bytes(alloc, canonical)?;
+    let time = FileTime::from_seconds(0);
     let file = LoadedFile {
         contents: Some(OsBytes::empty(alloc)),
         canonical,
@@ -29,24 +30,48 @@ fn load(
             ctime: time,
         },
     };
-    files.load(bytes(alloc, name)?, file)
+    files.load(name, file)
 }
 
-/// On these files `/a/gcc` resolves to this, where `PATH` is `/a:/b`.
-fn resolves_to(alloc: Global, files: &mut SnapshotFiles, want: &str) -> Result<(), Fail> {
-    let executable = bytes(alloc, "/a/gcc")?;
-    let env = [(bytes(alloc, "PATH")?, bytes(alloc, "/a:/b")?)];
-    let found = resolve_compiler_avoiding_wrapper(alloc, files, &executable, &env)?;
-    holds(found.as_bytes() == want.as_bytes(), want)
+/// The variable `PATH` with two folders.
+fn variables(alloc: Global) -> Result<[(OsBytes, OsBytes); 1], AllocError> {
+    let name = bytes(alloc, "PATH")?;
+    Ok([(name, bytes(alloc, "/a:/b")?)])
+}
+
+/// Whether the executable resolves to this on these files.
+fn resolves_to(
+    alloc: Global,
+    files: &mut SnapshotFiles,
+    executable: &OsBytes,
+    env: &[(OsBytes, OsBytes)],
+    want: &[u8],
+) -> bool {
+    match resolve_compiler_avoiding_wrapper(alloc, files, executable, env) {
+        Ok(found) => found.as_bytes() == want,
+        Err(_) => false,
+    }
+}
+
+/// `/a/gcc` is the wrapper: it stays where no other is there, and is `/b/gcc` where that is.
+fn is_passed_over(
+    alloc: Global,
+    files: &mut SnapshotFiles,
+    gcc: &OsBytes,
+    env: &[(OsBytes, OsBytes)],
+) -> Result<(), Fail> {
+    load(alloc, files, "/a/gcc", "/x/sccache")?;
+    files.load_absent(bytes(alloc, "/b/gcc")?)?;
+    let stays = resolves_to(alloc, files, gcc, env, b"/a/gcc");
+    load(alloc, files, "/b/gcc", "/b/gcc")?;
+    let other = resolves_to(alloc, files, gcc, env, b"/b/gcc");
+    holds(stays && other, "it stays, and is another")
 }
 
 #[test]
 fn the_wrapper_is_passed_over(rt: HostRuntime) -> Result<(), Fail> {
-    let alloc = rt.alloc();
-    let mut files = SnapshotFiles::new(alloc);
-    load(alloc, &mut files, "/a/gcc", "/x/sccache")?;
-    files.load_absent(bytes(alloc, "/b/gcc")?)?;
-    resolves_to(alloc, &mut files, "/a/gcc")?;
-    load(alloc, &mut files, "/b/gcc", "/b/gcc")?;
-    resolves_to(alloc, &mut files, "/b/gcc")
+    let gcc = bytes(rt.alloc(), "/a/gcc")?;
+    let env = variables(rt.alloc())?;
+    let mut files = SnapshotFiles::new(rt.alloc());
+    is_passed_over(rt.alloc(), &mut files, &gcc, &env)
 }

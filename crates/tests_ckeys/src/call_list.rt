@@ -1,24 +1,19 @@
 //! Keys of many calls, of a compiler that is represented by its executable and its version.
 
 use crate::print_tool::PrintTool;
+use crate::scene::Scene;
 use base_bounded_store::LruStore;
 use base_files::{MemoryFiles, OsBytes};
-use ckeys::{
-    CCompiler, CCompilerHasher, CCompilerImpl, EntryKey, HashCall, PreprocessorCacheEntry,
-    hash_keys,
-};
+use ckeys::{CCompiler, EntryKey, HashCall, PreprocessorCacheEntry, hash_keys};
 use ckeys_records::shape::CShape;
-use ckeys_records::{Fault, KeyConfig, Preprocessor};
+use ckeys_records::{Fault, KeyConfig};
 use ckeys_time_macros::Zone;
 use cmdlines::Gcc;
-use cmdlines_base::CompilerArguments;
-use cmdlines_tables::ParsedArguments;
 use sha2::Sha256;
 use std::alloc::{AllocError, Global};
-use std::fmt::Write;
 use std::num::NonZeroUsize;
 use std::test::Fail;
-use tests_kit::{WatchedFiles, files_of, is_that, words};
+use tests_kit::{WatchedFiles, files_of, holds};
 
 /// The include records of earlier calls.
 type Records = LruStore<EntryKey, PreprocessorCacheEntry>;
@@ -29,75 +24,55 @@ type Call<'a> = HashCall<'a, Gcc, WatchedFiles<'static>, PrintTool>;
 /// What a call is answered.
 type Answer = Result<(String, CShape, bool), Fault>;
 
-/// Gcc of the version 13.
-fn gcc(alloc: Global) -> Result<Gcc, AllocError> {
-    let version = String::from_str(alloc, "13")?;
-    Gcc::new(alloc, false, Some(version), None)
-}
-
-/// It with its executable, which holds `elf`.
+/// Gcc of the version 13 with its executable, which holds `elf`.
 fn compiler(alloc: Global) -> Result<CCompiler<Gcc>, Fault> {
-    let mut files = files_of(alloc, &[("/usr/bin/gcc", b"elf".as_slice())])?;
+    let version = String::from_str(alloc, "13")?;
     let executable = OsBytes::from_slice(alloc, b"/usr/bin/gcc")?;
-    CCompiler::<Gcc>::new::<Sha256, MemoryFiles>(alloc, gcc(alloc)?, executable, &mut files)
+    let gcc = Gcc::new(alloc, false, Some(version), None)?;
+    let mut files = files_of(alloc, &[("/usr/bin/gcc", b"elf".as_slice())])?;
+    CCompiler::<Gcc>::new::<Sha256, MemoryFiles>(alloc, gcc, executable, &mut files)
 }
 
-/// What these words ask it for, in `/w`.
-fn parsed(alloc: Global, compiler: &Gcc, line: &str) -> Result<ParsedArguments, Fail> {
-    let dir = OsBytes::from_slice(alloc, b"/w")?;
-    let mut files = MemoryFiles::new(alloc);
-    let list = words(alloc, line)?;
-    match compiler.parse_arguments(alloc, list.as_slice(), &dir, &mut files)? {
-        CompilerArguments::Ok(parsed) => Ok(parsed),
-        CompilerArguments::NotCompilation | CompilerArguments::CannotCache(_, _) => {
-            Err("no request".into())
-        }
-    }
-}
-
-/// `foo.c`, which includes `foo.h`.
-const SOURCES: [(&str, &[u8]); 2] = [
+/// `foo.c`, which includes `foo.h`, and a profile.
+const SOURCES: [(&str, &[u8]); 3] = [
     ("/w/foo.c", b"#include \"foo.h\"\n"),
     ("/w/foo.h", b"int x;\n"),
+    ("/w/prof.txt", b"profile"),
 ];
 
 /// What the preprocessor prints of them.
 const TEXT: &[u8] = b"# 1 \"foo.c\"\n# 1 \"foo.h\" 1\nint x;\n";
 
-/// The call of this request in that directory.
-fn call_of<'a>(
-    alloc: Global,
-    hasher: CCompilerHasher<'a, Gcc>,
-    dir: &'a OsBytes,
-) -> Result<Call<'a>, AllocError> {
-    let files = WatchedFiles {
-        files: files_of(alloc, &SOURCES)?,
-        calls: 0,
-        broken: b"",
-        failed: 0,
-    };
-    Ok(HashCall {
-        hasher,
-        dir,
+/// The call of the scene's request on these files.
+fn call_on<'a>(compiler: &'a CCompiler<Gcc>, scene: &'a Scene, files: MemoryFiles) -> Call<'a> {
+    HashCall {
+        hasher: compiler.hasher(&scene.parsed),
+        dir: &scene.dir,
         env: &[],
         moment: 0,
-        files,
-        tool: PrintTool::new(alloc, TEXT)?,
-    })
+        files: WatchedFiles {
+            files,
+            calls: 0,
+            broken: b"",
+            failed: 0,
+        },
+        tool: PrintTool::new(TEXT),
+    }
 }
 
-/// The call of each of these requests.
-fn calls_of<'a>(
+/// A call on no files, and two on the sources.
+fn three_calls<'a>(
     alloc: Global,
     compiler: &'a CCompiler<Gcc>,
-    requests: &'a [ParsedArguments],
-    dir: &'a OsBytes,
-) -> Result<Vec<Call<'a>>, AllocError> {
-    let mut calls: Vec<Call<'a>> = Vec::new(alloc);
-    for parsed in requests {
-        calls.push(call_of(alloc, compiler.hasher(parsed), dir)?)?;
-    }
-    Ok(calls)
+    scene: &'a Scene,
+) -> Result<[Call<'a>; 3], AllocError> {
+    let sources = files_of(alloc, &SOURCES)?;
+    let same = files_of(alloc, &SOURCES)?;
+    Ok([
+        call_on(compiler, scene, MemoryFiles::new(alloc)),
+        call_on(compiler, scene, sources),
+        call_on(compiler, scene, same),
+    ])
 }
 
 /// What these calls are answered from an empty store of records.
@@ -112,66 +87,53 @@ fn answers_of(alloc: Global, calls: &mut [Call<'_>]) -> Result<Vec<Answer>, Fail
     )?)
 }
 
-/// Adds the key, whether a record gave it, and how often the preprocessor ran; or the fault, and how often files were asked.
-fn push_answer(text: &mut String, call: &Call<'_>, answer: &Answer) -> Result<(), AllocError> {
-    match answer {
-        Ok((key, _, from_record)) => {
-            let runs = call.tool.ticks().preprocess;
-            writeln!(text, "{key} {from_record} {runs}")?;
+/// The digest of that of the compiler, the byte 0, `11c-O2`, the byte 255, `-arch`, the byte 255, `x86_64`, the byte 255, the digest of the
+/// profile and the text.
+const KEY: &str = "4c6c1692cf138268a22ce019c7c4d30f74ff330e53b4507f8e529f9b048464fe";
+
+/// Whether the first has no profile, the second has that key by its text, and the third by the record that this one left.
+fn are_told(answers: &[Answer]) -> bool {
+    match answers {
+        [
+            Err(Fault::Read(path)),
+            Ok((key, _, false)),
+            Ok((same, _, true)),
+        ] => {
+            path.as_bytes() == b"/w/prof.txt".as_slice()
+                && key.as_str() == KEY
+                && same.as_str() == KEY
         }
-        Err(fault) => writeln!(text, "{fault} {}", call.files.calls)?,
+        _ => false,
     }
-    Ok(())
 }
 
-/// What these calls are answered.
-fn told_of(alloc: Global, calls: &mut [Call<'_>]) -> Result<String, Fail> {
+/// Whether a missing file was looked for once, and the preprocessor ran for the second call alone.
+fn were_asked(calls: &[Call<'_>]) -> bool {
+    match calls {
+        [first, second, third] => {
+            first.files.calls == 1 && second.tool.preprocessed == 1 && third.tool.preprocessed == 0
+        }
+        _ => false,
+    }
+}
+
+/// What these calls are answered, and what was asked for it.
+fn are_answered(alloc: Global, calls: &mut [Call<'_>]) -> Result<(), Fail> {
     let answers = answers_of(alloc, calls)?;
-    let mut text = String::new(alloc);
-    for (call, answer) in calls.iter().zip(answers.iter()) {
-        push_answer(&mut text, call, answer)?;
-    }
-    Ok(text)
+    holds(are_told(answers.as_slice()), "the answers")?;
+    holds(were_asked(calls), "what was asked")
 }
 
-/// What these requests are answered in `/w`.
-fn answered(
-    alloc: Global,
-    compiler: &CCompiler<Gcc>,
-    requests: &[ParsedArguments],
-) -> Result<String, Fail> {
-    let dir = OsBytes::from_slice(alloc, b"/w")?;
-    let mut calls = calls_of(alloc, compiler, requests, &dir)?;
-    told_of(alloc, calls.as_mut_slice())
-}
-
-/// Lines of words: one that asks for a file that isn't there, and one twice.
-const LINES: [&str; 3] = ["-c foo.c -fplugin=p.so", "-c foo.c -O2", "-c foo.c -O2"];
-
-/// The requests of these lines.
-fn requests(alloc: Global, compiler: &Gcc) -> Result<Vec<ParsedArguments>, Fail> {
-    let mut list = Vec::new(alloc);
-    for line in LINES.iter() {
-        list.push(parsed(alloc, compiler, line)?)?;
-    }
-    Ok(list)
-}
-
-/// The missing file is looked for once. The next call has the digest of that of the compiler, the byte 0, `11c-O2`, the byte 255 and
-/// the text; and the record that it leaves gives the key of the third.
-const ANSWERS: &str = "read /w/p.so 1\n\
-    83ba875833770fcae3067e3d57a72008023a7371bf63838ce6debe5cae2c1f09 false 1\n\
-    83ba875833770fcae3067e3d57a72008023a7371bf63838ce6debe5cae2c1f09 true 0\n";
-
-/// The answers of this compiler.
-fn answers_are_told(alloc: Global, compiler: &CCompiler<Gcc>) -> Result<(), Fail> {
-    let requests = requests(alloc, &compiler.compiler)?;
-    let text = answered(alloc, compiler, requests.as_slice())?;
-    is_that(text.as_str(), ANSWERS, "three calls")
+/// The answers of that compiler in that scene.
+fn answers_are_told(alloc: Global, compiler: &CCompiler<Gcc>, scene: &Scene) -> Result<(), Fail> {
+    let mut calls = three_calls(alloc, compiler, scene)?;
+    are_answered(alloc, &mut calls)
 }
 
 #[test]
 fn a_call_gives_the_key_of_the_next(rt: HostRuntime) -> Result<(), Fail> {
+    let mut scene = Scene::new(rt.alloc());
+    scene.set(rt.alloc(), "/usr/bin/gcc", "/bin", "foo.o")?;
     let compiler = compiler(rt.alloc())?;
-    answers_are_told(rt.alloc(), &compiler)
+    answers_are_told(rt.alloc(), &compiler, &scene)
 }

@@ -1,24 +1,29 @@
 //! Faults and failures as they are printed.
 
 use base_files::{FileFail, OsBytes};
-use ckeys_records::{Fault, Step, ToolFail};
+use base_formats::ReadFault;
+use ckeys_records::{ConfigError, Fault, Step, ToolFail};
+use ckeys_time_macros::ZoneError;
 use std::alloc::{AllocError, Global};
 use std::test::Fail;
-use tests_kit::prints;
+use tests_kit::Checks;
 
-/// Faults that hold no word, and what is printed of each.
-const PLAIN: [(Fault, &str); 10] = [
-    (Fault::Memory, "memory"),
-    (Fault::Tool(Step::Preprocess), "tool preprocess"),
-    (Fault::Tool(Step::Compile), "tool compile"),
-    (Fault::Tool(Step::DepInfo), "tool dep-info"),
-    (Fault::Tool(Step::FileNames), "tool file-names"),
-    (Fault::Tool(Step::ArchiveDigest), "tool archive-digest"),
-    (Fault::PreprocessFailed(1), "preprocess 1"),
-    (Fault::CompileFailed(-9), "compile -9"),
-    (Fault::NoRule, "rule"),
-    (Fault::AnswerNotUtf8(Step::FileNames), "answer file-names"),
-];
+#[test]
+fn faults_are_printed(rt: HostRuntime) -> Result<(), Fail> {
+    let mut checks = Checks::new(rt.alloc());
+    checks.prints(&Fault::Memory, "memory");
+    checks.prints(&Fault::Tool(Step::Preprocess), "tool preprocess");
+    checks.prints(&Fault::Tool(Step::Compile), "tool compile");
+    checks.prints(&Fault::Tool(Step::DepInfo), "tool dep-info");
+    checks.prints(&Fault::Tool(Step::FileNames), "tool file-names");
+    checks.prints(&Fault::Tool(Step::ArchiveDigest), "tool archive-digest");
+    checks.prints(&Fault::PreprocessFailed(1), "preprocess 1");
+    checks.prints(&Fault::CompileFailed(-9), "compile -9");
+    checks.prints(&Fault::NoRule, "rule");
+    let answer = Fault::AnswerNotUtf8(Step::FileNames);
+    checks.prints(&answer, "answer file-names");
+    checks.end()
+}
 
 /// A word of a fault.
 fn word(alloc: Global) -> Result<OsBytes, AllocError> {
@@ -26,24 +31,24 @@ fn word(alloc: Global) -> Result<OsBytes, AllocError> {
 }
 
 #[test]
-fn faults_are_printed(rt: HostRuntime) -> Result<(), Fail> {
-    let alloc = rt.alloc();
-    for (fault, text) in PLAIN.iter() {
-        prints(alloc, fault, text)?;
-    }
-    Ok(())
-}
-
-#[test]
 fn words_of_faults_are_printed(rt: HostRuntime) -> Result<(), Fail> {
     let alloc = rt.alloc();
-    prints(alloc, &Fault::Read(word(alloc)?), "read /w/z")?;
-    prints(alloc, &Fault::MissingOutput(word(alloc)?), "missing /w/z")?;
-    prints(alloc, &Fault::BadDigest(word(alloc)?), "digest /w/z")
+    let mut checks = Checks::new(alloc);
+    checks.prints(&Fault::Read(word(alloc)?), "read /w/z");
+    checks.prints(&Fault::MissingOutput(word(alloc)?), "missing /w/z");
+    checks.prints(&Fault::BadDigest(word(alloc)?), "digest /w/z");
+    let folder = ConfigError::BadFolder(word(alloc)?);
+    checks.prints(&folder, "no absolute folder: /w/z");
+    checks.end()
 }
 
 #[test]
 fn failures_are_printed(rt: HostRuntime) -> Result<(), Fail> {
-    prints(rt.alloc(), &ToolFail::Device, "the tool's device failed")?;
-    prints(rt.alloc(), &FileFail::Device, "a device of files failed")
+    let mut checks = Checks::new(rt.alloc());
+    checks.prints(&ToolFail::Device, "the tool's device failed");
+    checks.prints(&FileFail::Device, "a device of files failed");
+    checks.prints(&ConfigError::Memory, "no memory was left");
+    checks.prints(&ZoneError::NoRule, "the zone is no POSIX rule");
+    checks.prints(&ReadFault::Unfit, "the bytes spell no such field");
+    checks.end()
 }

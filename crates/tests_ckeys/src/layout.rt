@@ -1,112 +1,74 @@
 //! The bytes of records.
 
-use base_files::OsBytes;
-use base_formats::ReadFault;
 use ckeys_base::error::Error;
-use ckeys_include_records::PreprocessorCacheEntry;
+use ckeys_include_records::{CachedResult, IncludeEntry, PreprocessorCacheEntry};
 use std::alloc::Global;
 use std::test::Fail;
-use tests_kit::{NarrowWriter, holds, is_that, prints};
-
-/// No results.
-const EMPTY: &[u8] = b"\x01\0\0\0\0\0\0\0\0";
-
-/// The result `k` without includes.
-const OF_K: &[u8] = b"\x01\x01\0\0\0\0\0\0\0\x01\0\0\0\0\0\0\0k\0\0\0\0\0\0\0\0";
+use tests_kit::{Checks, NarrowWriter, holds};
 
 /// The result `a`, whose include `x.h` has the size 3, the digest `ab`, the day -1 and no second.
 const OF_AN_INCLUDE: &[u8] =
     b"\x01\x01\0\0\0\0\0\0\0\x01\0\0\0\0\0\0\0a\x01\0\0\0\0\0\0\0\x03\0\0\0\0\0\0\0x.h\x03\0\0\0\0\0\0\0\x02\0\0\0\0\0\0\0ab\x01\xff\xff\xff\xff\xff\xff\xff\xff\0";
 
-/// It without its last byte.
-const CUT_OFF: &[u8] =
-    b"\x01\x01\0\0\0\0\0\0\0\x01\0\0\0\0\0\0\0a\x01\0\0\0\0\0\0\0\x03\0\0\0\0\0\0\0x.h\x03\0\0\0\0\0\0\0\x02\0\0\0\0\0\0\0ab\x01\xff\xff\xff\xff\xff\xff\xff\xff";
+/// Whether these are the fields of that include.
+fn is_the_include(include: &IncludeEntry) -> bool {
+    include.path.as_bytes() == b"x.h".as_slice()
+        && include.size == 3
+        && include.digest.as_str() == "ab"
+        && include.day == Some(-1)
+        && include.second.is_none()
+}
 
-/// Two results whose keys are equal, and two whose keys fall.
-const DOUBLED: &[u8] =
-    b"\x01\x02\0\0\0\0\0\0\0\x01\0\0\0\0\0\0\0k\0\0\0\0\0\0\0\0\x01\0\0\0\0\0\0\0k\0\0\0\0\0\0\0\0";
+/// Whether these are the fields of that result.
+fn is_read(results: &[CachedResult]) -> bool {
+    let [result] = results else {
+        return false;
+    };
+    match result.includes.as_slice() {
+        [include] => result.key.as_str() == "a" && is_the_include(include),
+        _ => false,
+    }
+}
 
-const FALLING: &[u8] =
-    b"\x01\x02\0\0\0\0\0\0\0\x01\0\0\0\0\0\0\0k\0\0\0\0\0\0\0\0\x01\0\0\0\0\0\0\0j\0\0\0\0\0\0\0\0";
+/// Its bytes are read field by field, and those of a copy are the same.
+#[test]
+fn records_are_read_back(rt: HostRuntime) -> Result<(), Fail> {
+    let entry = PreprocessorCacheEntry::read(rt.alloc(), OF_AN_INCLUDE)?;
+    let is_read = is_read(entry.results());
+    let copy = entry.clone()?;
+    drop(entry);
+    let mut out = Vec::new(rt.alloc());
+    copy.serialize_to(&mut out)?;
+    holds(is_read && out.as_slice() == OF_AN_INCLUDE, "the record")
+}
 
 /// A record that says that it has 2 ^ 60 results, and has none. It is no record, and the count takes no memory.
 const ENDLESS: &[u8] = b"\x01\0\0\0\0\0\0\0\x10";
 
-/// What is printed of each of these.
-const NO_RECORD: &[u8] = b"the bytes are no record";
-
-/// Bytes, and what is written again of them, or what is printed.
-const ROWS: [(&[u8], &[u8]); 10] = [
-    (b"", EMPTY),
-    (EMPTY, EMPTY),
-    (OF_K, OF_K),
-    (OF_AN_INCLUDE, OF_AN_INCLUDE),
-    (CUT_OFF, NO_RECORD),
-    (b"\x01\0\0\0\0\0\0\0\0\0", NO_RECORD),
-    (DOUBLED, NO_RECORD),
-    (FALLING, NO_RECORD),
-    (ENDLESS, NO_RECORD),
-    (
-        b"\x02\0\0\0\0\0\0\0\0",
-        b"the record has the unknown format 2",
-    ),
-];
-
-/// What is written of a copy of this record.
-fn written(alloc: Global, entry: &PreprocessorCacheEntry) -> Result<OsBytes, Fail> {
-    let mut out = Vec::new(alloc);
-    entry.clone()?.serialize_to(&mut out)?;
-    Ok(OsBytes::from_vec(out))
-}
-
-/// What is written again of what these bytes are read as, or what is printed where they are no record.
-fn again(alloc: Global, bytes: &[u8]) -> Result<OsBytes, Fail> {
+/// Why these bytes are no record.
+fn refusal(alloc: Global, bytes: &[u8]) -> Result<Error, Fail> {
     match PreprocessorCacheEntry::read(alloc, bytes) {
-        Ok(entry) => written(alloc, &entry),
-        Err(error) => Ok(OsBytes::from_vec(format!(in alloc; "{error}")?.into_bytes())),
+        Ok(_) => Err("a record".into()),
+        Err(error) => Ok(error),
     }
 }
 
 #[test]
-fn records_are_read_back(rt: HostRuntime) -> Result<(), Fail> {
-    for (bytes, want) in ROWS.iter() {
-        let told = again(rt.alloc(), bytes)?;
-        if told.as_bytes() != *want {
-            return Err(Fail::new(told));
-        }
-    }
-    Ok(())
-}
-
-/// What is said of the include.
-const READ: &str = "PreprocessorCacheEntry { results: [CachedResult { key: \"a\", \
-    includes: Listed { items: [IncludeEntry { path: \"x.h\", size: 3, digest: \"ab\", day: Some(-1), second: None }] } }], \
-    includes: 1 }";
-
-#[test]
-fn an_include_is_read_field_by_field(rt: HostRuntime) -> Result<(), Fail> {
-    let alloc = rt.alloc();
-    let entry = PreprocessorCacheEntry::read(alloc, OF_AN_INCLUDE)?;
-    let text = format!(in alloc; "{entry:?}")?;
-    is_that(text.as_str(), READ, "the include")
+fn what_is_no_record_is_told(rt: HostRuntime) -> Result<(), Fail> {
+    let mut checks = Checks::new(rt.alloc());
+    checks.prints(&refusal(rt.alloc(), ENDLESS)?, "the bytes are no record");
+    let later = refusal(rt.alloc(), b"\x02\0\0\0\0\0\0\0\0")?;
+    checks.prints(&later, "the record has the unknown format 2");
+    checks.end()
 }
 
 #[test]
 fn a_writer_that_fails_holds_a_beginning(rt: HostRuntime) -> Result<(), Fail> {
     let mut narrow = NarrowWriter::new(rt.alloc(), 4);
     let written = PreprocessorCacheEntry::new(rt.alloc()).serialize_to(&mut narrow);
-    holds(matches!(written, Err(Error::Io)), "it is told")?;
+    let is_told = matches!(written, Err(Error::Io));
     holds(
-        narrow.held.as_slice() == &EMPTY[..4],
-        "it holds a beginning",
-    )
-}
-
-#[test]
-fn a_fault_of_a_field_is_printed(rt: HostRuntime) -> Result<(), Fail> {
-    prints(
-        rt.alloc(),
-        &ReadFault::Unfit,
-        "the bytes spell no such field",
+        is_told && narrow.held.as_slice() == b"\x01\0\0\0".as_slice(),
+        "it is told, and held a beginning",
     )
 }

@@ -1,12 +1,10 @@
 //! Tests of keys of C requests, by example: digests that hashlib computes of what is hashed, and printed texts; of include records and of what
-//! they are kept under: bytes and bounds of records, what they say of files, the files that a text names, days of zones, and entry keys as
-//! hashlib computes them.
+//! they are kept under: their bytes, how often files are asked for, the files that a text names, days as numbers, and entry keys as hashlib
+//! computes them.
 #![tactic(auto)]
 
 #[cfg(test)]
 mod call_list;
-#[cfg(test)]
-mod config;
 #[cfg(test)]
 mod days;
 mod door;
@@ -24,8 +22,6 @@ mod look_ups;
 mod print_tool;
 #[cfg(test)]
 mod reader_time_macros;
-#[cfg(test)]
-mod results;
 #[cfg(test)]
 mod scene;
 #[cfg(test)]

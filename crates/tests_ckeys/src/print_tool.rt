@@ -7,27 +7,28 @@ use base_files::{Files, OsBytes};
 use ckeys_records::{Preprocessor, Printed, Ticks, ToolFail};
 use cmdlines_base::SingleCompileCommand;
 use cmdlines_tables::CCompilerKind;
-use std::alloc::{AllocError, Global};
+use std::alloc::Global;
 
 /// For tests: whatever the command, it prints this text and ends with 0.
 #[derive(Drop)]
 pub(crate) struct PrintTool {
-    text: OsBytes,
-    preprocessed: u64,
+    text: &'static [u8],
+    /// How often it ran.
+    pub(crate) preprocessed: u64,
 }
 
 impl PrintTool {
     /// One that prints this text.
-    pub(crate) fn new(alloc: Global, text: &[u8]) -> Result<PrintTool, AllocError> {
-        Ok(PrintTool {
-            text: OsBytes::from_slice(alloc, text)?,
+    pub(crate) fn new(text: &'static [u8]) -> PrintTool {
+        PrintTool {
+            text,
             preprocessed: 0,
-        })
+        }
     }
 }
 
 impl Preprocessor for PrintTool {
-    ghost meaning = { λ t. λ step asked outputs scene. made_of (pos 0) (Some t.text ∷ []) };
+    ghost meaning = { λ t. λ step asked outputs scene. made_of (pos 0) (Some t.text.now ∷ []) };
 
     ghost preprocessed = { λ t. t.preprocessed };
 
@@ -40,7 +41,7 @@ impl Preprocessor for PrintTool {
 
     fn preprocess<F: Files>(
         &mut self,
-        _alloc: Global,
+        alloc: Global,
         _kind: CCompilerKind,
         _command: &SingleCompileCommand,
         _files: &mut F,
@@ -49,7 +50,7 @@ impl Preprocessor for PrintTool {
         self.preprocessed = self.preprocessed.wrapping_add(1);
         Ok(Printed {
             status: 0,
-            text: self.text.clone()?,
+            text: OsBytes::from_slice(alloc, self.text)?,
         })
     }
 

@@ -12,9 +12,17 @@ use tests_kit::words;
 #[derive(Drop)]
 pub(crate) struct Scene {
     executable: OsBytes,
-    dir: OsBytes,
+    pub(crate) dir: OsBytes,
     env: Vec<(OsBytes, OsBytes)>,
-    parsed: ParsedArguments,
+    pub(crate) parsed: ParsedArguments,
+}
+
+/// The digests of two extra files.
+pub(crate) fn digests(alloc: Global) -> Result<Vec<String>, AllocError> {
+    let mut list = Vec::new(alloc);
+    list.push(String::from_str(alloc, "e1")?)?;
+    list.push(String::from_str(alloc, "e2")?)?;
+    Ok(list)
 }
 
 /// These words.

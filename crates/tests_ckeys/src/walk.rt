@@ -1,10 +1,9 @@
-//! What walks over texts name: lines for which a text is refused, plain ones, markers, and texts as gcc 12.2 prints them by `-E`, with the
-//! files that it lists for them by `-M`.
+//! What walks over texts name, as gcc 12.2 prints them by `-E`, with the files that it lists for them by `-M`; and how often walks ask for files.
 
 use ckeys_marker_walk::walk::walk;
-use std::alloc::Global;
+use std::alloc::{AllocError, Global};
 use std::test::Fail;
-use tests_kit::{WatchedFiles, files_of, holds, is_that};
+use tests_kit::{Checks, WatchedFiles, files_of};
 
 /// Of a source that includes `vector`. Most of the headers are left out with all that is between them, but for each form of a marker one
 /// is kept here.
@@ -38,11 +37,9 @@ const ODD_FOLDER: &[u8] = b"# 0 \"we\\\"ird \\\\dir/a.c\"\n# 0 \"<built-in>\"\n\
     # 1 \"we\\\"ird \\\\dir/h.h\" 1\n\n# 1 \"we\\\"ird \\\\dir/h.h\"\nint q;\n\
     # 5 \"we\\\"ird \\\\dir/a.c\" 2\nint main(void) { return 0; }\n";
 
-/// The files that are there, each empty but for one.
-const FILES: [(&str, &[u8]); 13] = [
-    ("/w/a.c", b""),
+/// The files that are there, all empty.
+const FILES: [(&str, &[u8]); 11] = [
     ("/w/x.h", b""),
-    ("/w/t.h", b"char *t = __TIME__;\n"),
     ("/w/v.cc", b""),
     ("/usr/include/stdc-predef.h", b""),
     ("/usr/include/c++/12/vector", b""),
@@ -55,106 +52,77 @@ const FILES: [(&str, &[u8]); 13] = [
     ("/usr/lib/gcc/x86_64-linux-gnu/12/include/stddef.h", b""),
 ];
 
-/// What is answered where a text is refused, where it names no file, and where it names `x.h`.
-const REFUSED: &str = "Ok(Refused)";
+/// What the walk answers.
+const IN_VECTOR: &str =
+    "Ok(Names(Listed { items: [\"/usr/include/stdc-predef.h\", \"/usr/include/c++/12/vector\", \
+    \"/usr/include/x86_64-linux-gnu/c++/12/bits/c++config.h\", \"/usr/include/features.h\", \
+    \"/usr/include/x86_64-linux-gnu/bits/wordsize.h\"] }))";
 
-const NONE: &str = "Ok(Names(Listed { items: [] }))";
+const IN_ODD_FOLDER: &str =
+    r#"Ok(Names(Listed { items: ["/usr/include/stdc-predef.h", "we\"ird \\dir/h.h", "we\"ird \\dir/s h.h", "/usr/lib/gcc/x86_64-linux-gnu/12/include/stddef.h"] }))"#;
 
-const ONE: &str = "Ok(Names(Listed { items: [\"x.h\"] }))";
+/// The second of these names is of no file.
+const TWICE: &[u8] =
+    b"# 1 \"x.h\" 1\n# 1 \"gone.h\" 1\n# 3 \"x.h\" 2\n# 1 \"gone.h\" 1\n# 9 \"x.h\" 2\n";
 
-/// Inputs in `/w`, their texts, what a walk answers, and how many calls of files it makes: one for each name, however often it comes.
-const ROWS: [(&[u8], &[u8], &str, u64); 28] = [
-    (b"a.c", b"# 1 foo\n", REFUSED, 0),
-    (b"a.c", b"int x;\n# 1 \"a\\qb\"\n", REFUSED, 0),
-    (b"a.c", b"#line 1 \"a\\qb\"\n", REFUSED, 0),
-    (b"a.c", b"# 1 \"a", REFUSED, 0),
-    (b"a.c", b"# 1", REFUSED, 0),
-    (b"a.c", b"# 1\"a\"", REFUSED, 0),
-    (b"a.c", b"# 1 \"h\\303\\251.h\" 1\n", REFUSED, 0),
-    (b"a.c", b"__asm__(\".incbin \\\"x\\\"\");\n", REFUSED, 0),
-    (
-        b"a.c",
-        b"#pragma GCC pch_preprocess \"x.gch\"\n",
-        REFUSED,
-        0,
-    ),
-    (b"a.c", b"# 1 \"t.h\" 1\n", REFUSED, 1),
-    (b"a.c", b"", NONE, 0),
-    (b"a.c", b"#line 7\n", NONE, 0),
-    (b"a.c", b"#line 7 foo\n", NONE, 0),
-    (b"a.c", b"#1 \"x.h\"\n", NONE, 0),
-    (b"a.c", b" # 1 \"x.h\"\n", NONE, 0),
-    (b"a.c", b"#\t1 \"x.h\"\n", NONE, 0),
-    (b"a.c", b"# line 1 \"x.h\"\n", NONE, 0),
-    (
-        b"a.c",
-        b"#pragma GCC diagnostic push\n#ident \"x.h\"\n# foo\n",
-        NONE,
-        0,
-    ),
-    (
-        b"a.c",
-        b"# 1 \"<built-in>\"\n# 1 \"\"\n# 1 \"/w//\"\n# 1 \"a.c\" 2\n",
-        NONE,
-        2,
-    ),
-    (b"a.c", b"# 1 \"x.h\"", ONE, 1),
-    (b"a.c", b"# 1 \"x.h\" 1 3 4\r\n", ONE, 1),
-    (b"a.c", b"#  007   \"x.h\"\"y.h\n", ONE, 1),
-    (b"a.c", b"#line 1 \"x.h\"\r\n", ONE, 1),
-    (
-        b"a.c",
-        b"#line 2 \"x.h\" foo\nint x;\n#line 3 \"x.h\"",
-        ONE,
-        1,
-    ),
-    (
-        b"a.c",
-        b"# 1 \"x.h\" 1\n# 1 \"gone.h\" 1\n# 3 \"x.h\" 2\n# 1 \"gone.h\" 1\n# 9 \"x.h\" 2\n",
-        ONE,
-        2,
-    ),
-    // The third of these names can't be read, and the last one isn't asked for any more.
-    (
-        b"a.c",
-        b"# 1 \"x.h\" 1\n# 1 \"gone.h\" 1\n# 1 \"broken.h\" 1\n# 1 \"y.h\" 1\n",
-        "Err(Read(\"/w/broken.h\"))",
-        3,
-    ),
-    (
-        b"v.cc",
-        VECTOR,
-        "Ok(Names(Listed { items: [\"/usr/include/stdc-predef.h\", \"/usr/include/c++/12/vector\", \
-            \"/usr/include/x86_64-linux-gnu/c++/12/bits/c++config.h\", \"/usr/include/features.h\", \
-            \"/usr/include/x86_64-linux-gnu/bits/wordsize.h\"] }))",
-        5,
-    ),
-    (
+/// The third of these names can't be read, and the last one isn't asked for any more.
+const BROKEN: &[u8] = b"# 1 \"x.h\" 1\n# 1 \"gone.h\" 1\n# 1 \"broken.h\" 1\n# 1 \"y.h\" 1\n";
+
+/// What the walk over a text of that input in `/w` answers.
+fn answer(
+    alloc: Global,
+    files: &mut WatchedFiles<'_>,
+    input: &[u8],
+    text: &[u8],
+) -> Result<String, AllocError> {
+    let found = walk(alloc, text, input, b"/w", files);
+    format!(in alloc; "{found:?}")
+}
+
+/// Whether it answers this, with so many calls of files: one for each name, however often it comes.
+fn answers(
+    alloc: Global,
+    files: &mut WatchedFiles<'_>,
+    input: &[u8],
+    text: &[u8],
+    want: &str,
+    calls: u64,
+) -> bool {
+    files.calls = 0;
+    match answer(alloc, files, input, text) {
+        Ok(answer) => answer.as_str() == want && files.calls == calls,
+        Err(_) => false,
+    }
+}
+
+/// What is answered over each text.
+fn texts_are_answered(alloc: Global, files: &mut WatchedFiles<'_>) -> Result<(), Fail> {
+    let mut checks = Checks::new(alloc);
+    let vector = answers(alloc, files, b"v.cc", VECTOR, IN_VECTOR, 5);
+    checks.holds(vector, "a vector");
+    let odd = answers(
+        alloc,
+        files,
         b"we\"ird \\dir/a.c",
         ODD_FOLDER,
-        r#"Ok(Names(Listed { items: ["/usr/include/stdc-predef.h", "we\"ird \\dir/h.h", "we\"ird \\dir/s h.h", "/usr/lib/gcc/x86_64-linux-gnu/12/include/stddef.h"] }))"#,
+        IN_ODD_FOLDER,
         4,
-    ),
-];
-
-/// The walk over a text of that input in `/w` answers this, with so many calls of files.
-fn answers(alloc: Global, input: &[u8], text: &[u8], want: &str, calls: u64) -> Result<(), Fail> {
-    let mut files = WatchedFiles {
-        files: files_of(alloc, &FILES)?,
-        calls: 0,
-        broken: b"/w/broken.h",
-        failed: 0,
-    };
-    let found = walk(alloc, text, input, b"/w", &mut files);
-    let answer = format!(in alloc; "{found:?}")?;
-    is_that(answer.as_str(), want, want)?;
-    holds(files.calls == calls, want)
+    );
+    checks.holds(odd, "an odd folder");
+    let one = "Ok(Names(Listed { items: [\"x.h\"] }))";
+    checks.holds(answers(alloc, files, b"a.c", TWICE, one, 2), "twice");
+    let read = "Err(Read(\"/w/broken.h\"))";
+    checks.holds(answers(alloc, files, b"a.c", BROKEN, read, 3), "broken");
+    checks.end()
 }
 
 #[test]
 fn texts_name_their_files(rt: HostRuntime) -> Result<(), Fail> {
-    for (input, text, want, calls) in ROWS.iter() {
-        answers(rt.alloc(), input, text, want, *calls)?;
-    }
-    Ok(())
+    let mut files = WatchedFiles {
+        files: files_of(rt.alloc(), &FILES)?,
+        calls: 0,
+        broken: b"/w/broken.h",
+        failed: 0,
+    };
+    texts_are_answered(rt.alloc(), &mut files)
 }
