@@ -1,6 +1,6 @@
-//! Tests of keys of C requests, by example: digests that hashlib computes of what is hashed, and printed texts; of include records and of what
+//! Tests of keys, by example: of C requests, digests that hashlib computes of what is hashed, and printed texts; of include records and of what
 //! they are kept under: their bytes, how often files are asked for, the files that a text names, days as numbers, and entry keys as hashlib
-//! computes them.
+//! computes them; of rustc, texts of arguments where paths lie elsewhere, what it writes of metadata, and faults as they are printed.
 #![tactic(auto)]
 
 #[cfg(test)]
@@ -19,9 +19,16 @@ mod layout;
 #[cfg(test)]
 mod look_ups;
 #[cfg(test)]
+mod notification;
+#[cfg(test)]
 mod print_tool;
 #[cfg(test)]
 mod reader_time_macros;
+mod rust_door;
+#[cfg(test)]
+mod rust_faults;
+#[cfg(test)]
+mod rust_texts;
 #[cfg(test)]
 mod scene;
 #[cfg(test)]
