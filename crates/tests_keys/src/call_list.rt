@@ -26,10 +26,10 @@ type Answer = Result<(String, CShape, bool), Fault>;
 
 /// Gcc of the version 13 with its executable, which holds `elf`.
 fn compiler(alloc: Global) -> Result<CCompiler<Gcc>, Fault> {
-    let version = String::from_str(alloc, "13")?;
-    let executable = OsBytes::from_slice(alloc, b"/usr/bin/gcc")?;
-    let gcc = Gcc::new(alloc, false, Some(version), None)?;
     let mut files = files_of(alloc, &[("/usr/bin/gcc", b"elf".as_slice())])?;
+    let executable = OsBytes::from_slice(alloc, b"/usr/bin/gcc")?;
+    let version = String::from_str(alloc, "13")?;
+    let gcc = Gcc::new(alloc, false, Some(version), None)?;
     CCompiler::<Gcc>::new::<Sha256, MemoryFiles>(alloc, gcc, executable, &mut files)
 }
 
@@ -79,12 +79,15 @@ fn three_calls<'a>(
 fn answers_of(alloc: Global, calls: &mut [Call<'_>]) -> Result<Vec<Answer>, Fail> {
     let config = KeyConfig::new(alloc, &[], Zone::utc(), true)?;
     let mut records: Records = LruStore::new(alloc, NonZeroUsize::MIN)?;
-    Ok(hash_keys::<Sha256, Gcc, Records, WatchedFiles<'static>, PrintTool>(
+    let answers = hash_keys::<Sha256, Gcc, Records, WatchedFiles<'static>, PrintTool>(
         alloc,
         calls,
         &config,
         &mut records,
-    )?)
+    );
+    drop(records);
+    drop(config);
+    Ok(answers?)
 }
 
 /// The digest of that of the compiler, the byte 0, `11c-O2`, the byte 255, `-arch`, the byte 255, `x86_64`, the byte 255, the digest of the
@@ -120,20 +123,32 @@ fn were_asked(calls: &[Call<'_>]) -> bool {
 /// What these calls are answered, and what was asked for it.
 fn are_answered(alloc: Global, calls: &mut [Call<'_>]) -> Result<(), Fail> {
     let answers = answers_of(alloc, calls)?;
-    holds(are_told(answers.as_slice()), "the answers")?;
-    holds(were_asked(calls), "what was asked")
+    let are_told = are_told(answers.as_slice());
+    drop(answers);
+    holds(are_told && were_asked(calls), "three calls")
 }
 
 /// The answers of that compiler in that scene.
 fn answers_are_told(alloc: Global, compiler: &CCompiler<Gcc>, scene: &Scene) -> Result<(), Fail> {
     let mut calls = three_calls(alloc, compiler, scene)?;
-    are_answered(alloc, &mut calls)
+    let told = are_answered(alloc, &mut calls);
+    drop(calls);
+    told
+}
+
+/// The answers in that scene.
+fn scene_is_answered(alloc: Global, scene: &mut Scene) -> Result<(), Fail> {
+    scene.set(alloc, "/usr/bin/gcc", "/bin", "foo.o")?;
+    let compiler = compiler(alloc)?;
+    let told = answers_are_told(alloc, &compiler, scene);
+    drop(compiler);
+    told
 }
 
 #[test]
 fn a_call_gives_the_key_of_the_next(rt: HostRuntime) -> Result<(), Fail> {
     let mut scene = Scene::new(rt.alloc());
-    scene.set(rt.alloc(), "/usr/bin/gcc", "/bin", "foo.o")?;
-    let compiler = compiler(rt.alloc())?;
-    answers_are_told(rt.alloc(), &compiler, &scene)
+    let told = scene_is_answered(rt.alloc(), &mut scene);
+    drop(scene);
+    told
 }

@@ -37,6 +37,7 @@ const OF_PLAIN: &str = "75fccfd2d5e658a0fa670cff18e7f9897b9a5e7f12edea29e90276b8
 
 /// Both keys.
 fn keys_are_told(alloc: Global, scene: &mut Scene) -> Result<(), Fail> {
+    scene.set(alloc, "/usr/bin/gcc", "/bin", "foo.o")?;
     let dated = SeenInput {
         contents: b"__DATE__ __TIMESTAMP__",
         day: Some(0),
@@ -56,6 +57,7 @@ fn keys_are_told(alloc: Global, scene: &mut Scene) -> Result<(), Fail> {
 #[test]
 fn keys_of_calls_by_example(rt: HostRuntime) -> Result<(), Fail> {
     let mut scene = Scene::new(rt.alloc());
-    scene.set(rt.alloc(), "/usr/bin/gcc", "/bin", "foo.o")?;
-    keys_are_told(rt.alloc(), &mut scene)
+    let told = keys_are_told(rt.alloc(), &mut scene);
+    drop(scene);
+    told
 }
