@@ -10,8 +10,6 @@ pub mod door;
 #[cfg(test)]
 mod faults;
 #[cfg(test)]
-mod many_pairs;
-#[cfg(test)]
 mod path;
 #[cfg(test)]
 mod requests;

@@ -3,10 +3,10 @@
 use crate::answers::{AnswerTexts, answer_texts, push_unless};
 use crate::runs::Stop;
 use base_files::{Files, MemoryFiles};
-use ckeys_records::Fault;
+use ckeys_records::{Fault, KeyConfig};
 use cmdlines::EachKind;
 use sccache_scenarios::{Scenario, ScenarioCall, read_scenario};
-use sccache_script_tool::{ScriptTool, StatusOf, Statuses, error_status, print_status};
+use sccache_script_tool::{CrateTexts, ScriptTool, StatusOf, Statuses, error_status, print_status};
 use sha2::Sha256;
 use std::alloc::{AllocError, Global};
 use tests_kit::{FailFiles, FailTool};
@@ -56,38 +56,66 @@ fn step_says(
     says
 }
 
-/// Likewise of the last call of the scenario of this line, by compilers that end with these statuses.
-fn last_says(
-    alloc: Global,
-    line: &[u8],
+/// What a scenario's tool is made of, but for the texts of a call.
+#[derive(Drop)]
+struct ToolParts {
+    config: KeyConfig,
+    compilers: EachKind,
     statuses: Statuses,
+}
+
+/// Likewise of this call, by a tool of these parts.
+fn call_says(
+    alloc: Global,
+    config: Config,
+    call: ScenarioCall,
+    parts: ToolParts,
     due: &AnswerTexts,
-) -> Result<bool, Stop> {
-    let compilers = EachKind::new(alloc)?;
-    let Scenario {
-        session_config,
-        tool_config,
-        capacity: _,
-        mut calls,
-    } = read_scenario(alloc, line)?;
-    let call = calls.pop();
-    drop(calls);
-    let Some(call) = call else {
-        return Ok(false);
-    };
+) -> Result<bool, AllocError> {
     let ScenarioCall {
         request,
         files,
         crate_texts,
         forget: _,
     } = call;
-    let tool = ScriptTool::new(tool_config, crate_texts, compilers, statuses);
+    let tool = ScriptTool::new(parts.config, crate_texts, parts.compilers, parts.statuses);
     let step = Call {
         request,
         files: FailFiles::new(files, u64::MAX),
         tool: FailTool::new(tool, u64::MAX),
     };
-    Ok(step_says(alloc, session_config, step, due)?)
+    step_says(alloc, config, step, due)
+}
+
+/// Likewise of the last call of this scenario, if it has one.
+fn last_says(
+    alloc: Global,
+    scenario: Scenario,
+    compilers: EachKind,
+    statuses: Statuses,
+    due: &AnswerTexts,
+) -> Result<bool, AllocError> {
+    let Scenario {
+        session_config,
+        tool_config,
+        capacity: _,
+        mut calls,
+    } = scenario;
+    let parts = ToolParts {
+        config: tool_config,
+        compilers,
+        statuses,
+    };
+    let call = calls.pop();
+    drop(calls);
+    match call {
+        Some(call) => call_says(alloc, session_config, call, parts, due),
+        None => {
+            drop(parts);
+            drop(session_config);
+            Ok(false)
+        }
+    }
 }
 
 /// Adds a line where a build of the scenario's last call isn't answered like that.
@@ -97,9 +125,22 @@ pub(crate) fn push_built(
     due: &AnswerTexts,
     text: &mut String,
 ) -> Result<(), Stop> {
-    let print: StatusOf = Box::new(alloc, |text: &[u8]| print_status(text))?;
-    let compile: StatusOf = Box::new(alloc, |text: &[u8]| error_status(text))?;
-    let says = last_says(alloc, line, Statuses::new(print, compile), due)?;
+    let scenario = read_scenario(alloc, line)?;
+    let says = scenario_says(alloc, scenario, due)?;
     push_unless(says, "a build is answered as its call", text)?;
     Ok(())
+}
+
+/// Likewise of the last call of this scenario, by compilers of its own.
+fn scenario_says(alloc: Global, scenario: Scenario, due: &AnswerTexts) -> Result<bool, AllocError> {
+    let print: StatusOf = Box::new(alloc, |text: &[u8]| print_status(text))?;
+    let compile: StatusOf = Box::new(alloc, |text: &[u8]| error_status(text))?;
+    let compilers = EachKind::new(alloc)?;
+    last_says(
+        alloc,
+        scenario,
+        compilers,
+        Statuses::new(print, compile),
+        due,
+    )
 }

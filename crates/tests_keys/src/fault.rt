@@ -4,6 +4,7 @@ use base_files::{FileFail, OsBytes};
 use base_formats::ReadFault;
 use ckeys_records::{ConfigError, Fault, Step, ToolFail};
 use ckeys_time_macros::ZoneError;
+use rustkeys::{RustFault, TextFault};
 use std::alloc::{AllocError, Global};
 use std::test::Fail;
 use tests_kit::Checks;
@@ -50,5 +51,17 @@ fn failures_are_printed(rt: HostRuntime) -> Result<(), Fail> {
     checks.prints(&ConfigError::Memory, "no memory was left");
     checks.prints(&ZoneError::NoRule, "the zone is no POSIX rule");
     checks.prints(&ReadFault::Unfit, "the bytes spell no such field");
+    checks.end()
+}
+
+#[test]
+fn faults_of_rustc_are_printed(rt: HostRuntime) -> Result<(), Fail> {
+    let alloc = rt.alloc();
+    let mut checks = Checks::new(alloc);
+    checks.prints(&RustFault::Read(word(alloc)?), "cannot read /w/z");
+    checks.prints(&RustFault::NoHost, "the version tells no host");
+    checks.prints(&RustFault::Memory, "no memory was left");
+    checks.prints(&TextFault::NoRule, "the text starts with no rule");
+    checks.prints(&TextFault::Memory, "no memory was left");
     checks.end()
 }

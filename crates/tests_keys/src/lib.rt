@@ -26,8 +26,6 @@ mod print_tool;
 mod reader_time_macros;
 mod rust_door;
 #[cfg(test)]
-mod rust_faults;
-#[cfg(test)]
 mod rust_texts;
 #[cfg(test)]
 mod scene;

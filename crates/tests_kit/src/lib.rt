@@ -17,5 +17,5 @@ pub use fail_tool::FailTool;
 pub use narrow_writer::NarrowWriter;
 pub use rows::{files_of, insert, words};
 pub use short_reader::ShortReader;
-pub use texts::{holds, is_that, prints, write_list, write_words};
+pub use texts::{holds, is_that, write_list, write_words};
 pub use watched_files::WatchedFiles;

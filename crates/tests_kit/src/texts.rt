@@ -3,8 +3,8 @@
 //! A test asks by these functions, which are proved once: each assertion by a macro is proved where it is written.
 
 use base_files::OsBytes;
-use std::alloc::{AllocError, Global};
-use std::fmt::{Display, Write};
+use std::alloc::AllocError;
+use std::fmt::Write;
 use std::test::Fail;
 
 /// A text that isn't the wanted one fails the test, and the failure names the line.
@@ -21,12 +21,6 @@ pub fn holds(is_so: bool, what: &str) -> Result<(), Fail> {
         return Ok(());
     }
     Err(Fail::new(format_args!("not so: {what}")))
-}
-
-/// A value that prints another text than the wanted one fails the test.
-pub fn prints<T: Display>(alloc: Global, value: &T, want: &str) -> Result<(), Fail> {
-    let text = format!(in alloc; "{value}")?;
-    is_that(text.as_str(), want, "printed")
 }
 
 /// Adds words, each after a space, an empty one as two quotes.
