@@ -16,7 +16,7 @@ HEAD = """# Clauses
 
 Each public function that has a contract, crate by crate, from the lowest floor to the highest.
 `bin/clauses` makes this file from the sources, and `bin/check-docs` fails where it is stale. The
-text is the first sentence of each comment; that of a crate stands at the head of its `lib.rt`.
+text is the first sentence of each comment; that of a crate is at the head of its `lib.rt`.
 Under "clauses" are the labels of a function's `ensures`; of one without a label the first
 definition that it names, or `value`. What is said of a trait's functions holds for every type that
 implements it. A law is a function without arguments and result, which is there to be cited.

@@ -104,17 +104,17 @@ pub held : (s : Blake2b256) (m : List ℕ) (n : ℕ) → Absorbed s m n → n �
 held s m n a e = rw (← e) a
 
 -- after the bytes that follow the last block that was taken in
-pub held_behind : (s : Blake2b256) (m d y : List ℕ) (n i : ℕ) → length m ≡ n * 128 → 0 < length d → i ≡ (length d - 1) / 128
+pub held_after : (s : Blake2b256) (m d y : List ℕ) (n i : ℕ) → length m ≡ n * 128 → 0 < length d → i ≡ (length d - 1) / 128
     → y ≡ drop (128 * i) d → Absorbed s ((m ++ take (128 * i) d) ++ y) (n + i) → Holds s (m ++ d)
-held_behind s m d y n i len more ei ey a =
+held_after s m d y n i len more ei ey a =
     let message : (m ++ take (128 * i) d) ++ y ≡ m ++ d =
     append_assoc m (take (128 * i) d) y ∙ ap (λ (x : List ℕ). m ++ (take (128 * i) d ++ x)) ey ∙ ap (λ (x : List ℕ). m ++ x) (take-append-drop (128 * i) d) in
     held s (m ++ d) (n + i) (rw message at a) (omega (arith, length-append m d))
 
 -- zeros after the bytes that wait
-pub zeros_behind : (s : Blake2b256) (m ys : List ℕ) (n k j : ℕ) → Absorbed s m n → length s.buffer ≡ 128 → s.waiting ≤ 128 → k ≡ 128 - s.waiting
+pub zeros_after : (s : Blake2b256) (m ys : List ℕ) (n k j : ℕ) → Absorbed s m n → length s.buffer ≡ 128 → s.waiting ≤ 128 → k ≡ 128 - s.waiting
     → j ≡ 128 - s.waiting → ys ≡ replicate j 0 → put_mid s.waiting k s.buffer ys ≡ padded (drop (n * 128) m)
-zeros_behind s m ys n k j a len fits ek ej ey =
+zeros_after s m ys n k j a len fits ek ej ey =
     let none : post_of s.waiting k s.buffer ≡ [] = drop_all k (drop s.waiting s.buffer) (omega (arith, length-drop s.waiting s.buffer)) in
     let left : length (drop (n * 128) m) ≡ s.waiting = omega (arith, a.bytes, length-drop (n * 128) m) in
     let room : j ≡ 128 - length (drop (n * 128) m) = omega arith in

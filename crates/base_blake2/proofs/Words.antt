@@ -50,9 +50,9 @@ pub vector_is : (h : List ℕ) (count : ℕ) (last : Bool) → length h ≡ 8 �
     ∷ bit_xor (slice_index iv 6) (mark last) ∷ slice_index iv 7 ∷ [] ≡ vector h count last
 unfolding vector
 vector_is h count last len fits =
-    let behind : List ℕ = bit_xor (slice_index iv 4) (count % 2 ^ 64) ∷ bit_xor (slice_index iv 5) (count / 2 ^ 64)
+    let after : List ℕ = bit_xor (slice_index iv 4) (count % 2 ^ 64) ∷ bit_xor (slice_index iv 5) (count / 2 ^ 64)
     ∷ bit_xor (slice_index iv 6) (mark last) ∷ slice_index iv 7 ∷ [] in
-    rw (high_half count fits) (ap (λ (x : List ℕ). x ++ take 4 iv ++ behind) (sym (eight h len)))
+    rw (high_half count fits) (ap (λ (x : List ℕ). x ++ take 4 iv ++ after) (sym (eight h len)))
 
 -- the vector reads a count modulo 2 ^ 128
 vector-mod : (h : List ℕ) (count : ℕ) (last : Bool) → vector h (count % 2 ^ 128) last ≡ vector h count last

@@ -17,7 +17,7 @@ module _ {K V : Type 0} (eq : K → K → Bool) (laws : IsEquivalence eq) (old n
   -- a look-up that found the key's pair first
   pub makes_first : IsValid eq old.cache → new.cache ≡ lru_cache (promoted (eq k) old.cache.entries) old.cache.cap → MakesFirst eq old new k
   makes_first valid is = record {
-    found = λ before pair behind e t. ap (λ (c : LruCache K V). c.entries) is ∙ promoted_found eq laws k old.cache.entries before pair behind valid.0 e t;
+    found = λ before pair after e t. ap (λ (c : LruCache K V). c.entries) is ∙ promoted_found eq laws k old.cache.entries before pair after valid.0 e t;
     missed = λ h. ap (λ (c : LruCache K V). c.entries) is ∙ promoted_missed eq laws k old.cache.entries h;
     capacity = ap (λ (c : LruCache K V). c.cap) is;
   }
@@ -70,7 +70,7 @@ module _ {K V : Type 0} (eq : K → K → Bool) (laws : IsEquivalence eq) (old n
 
       pub in_order : PutsFirst eq old new k v (Ok tt)
       in_order = record {
-        replaced = λ before pair behind e t. (refl, entries ∙ put_replaced eq laws old.cache k v valid.0 before pair behind e t);
+        replaced = λ before pair after e t. (refl, entries ∙ put_replaced eq laws old.cache k v valid.0 before pair after e t);
         added = λ h l. entries ∙ put_new eq laws old.cache k v valid.0 h ∙ ap (λ (es : List (K × V)). (k, v) ∷ es) (take_all (old.cache.cap - 1) old.cache.entries (omega arith));
         dropped = λ h full others last e. (
           entries ∙ put_dropped eq laws old.cache k v valid.0 h full others last e,
@@ -82,7 +82,7 @@ module _ {K V : Type 0} (eq : K → K → Bool) (laws : IsEquivalence eq) (old n
 
     pub refused : (pair : K × V) → new.cache ≡ old.cache → new.kept ≡ false → (IsSome (lookup (eq k) old.cache.entries) → ⊥) → PutsFirst eq old new k v (Err pair)
     refused given is kept absent = record {
-      replaced = λ before pair behind e t. absurd (absent (held_there eq laws old.cache k v valid.0 before pair behind e t));
+      replaced = λ before pair after e t. absurd (absent (held_there eq laws old.cache k v valid.0 before pair after e t));
       added = λ h l. tt;
       dropped = λ h full others last e. tt;
       refused = (ap (λ (c : LruCache K V). c.entries) is, kept);

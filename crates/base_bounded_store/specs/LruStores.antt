@@ -27,16 +27,16 @@ module _ {K V : Type 0} where
 
   -- A look-up makes the key's pair the most recently used, and leaves the others in their order. Where there is none, nothing moves.
   pub record MakesFirst (eq : K → K → Bool) (old new : LruStore K V) (key : K) : Type 0 where
-    pub found : (before : List (K × V)) (pair : K × V) (behind : List (K × V)) → uses_of old ≡ before ++ pair ∷ behind → eq key pair.0 ≡ true
-        → uses_of new ≡ pair ∷ (before ++ behind)
+    pub found : (before : List (K × V)) (pair : K × V) (after : List (K × V)) → uses_of old ≡ before ++ pair ∷ after → eq key pair.0 ≡ true
+        → uses_of new ≡ pair ∷ (before ++ after)
     pub missed : (shelf_of eq old).held key ≡ None → uses_of new ≡ uses_of old
     pub capacity : capacity_of new ≡ capacity_of old
 
   -- A put makes its pair the most recently used, and leaves the others in their order.
   pub record PutsFirst (eq : K → K → Bool) (old new : LruStore K V) (key : K) (value : V) (result : Result (Unit {0}) (K × V)) : Type 0 where
     -- a held key has the new value, drops nothing and is never refused
-    pub replaced : (before : List (K × V)) (pair : K × V) (behind : List (K × V)) → uses_of old ≡ before ++ pair ∷ behind → eq key pair.0 ≡ true
-        → IsOk result × (uses_of new ≡ (pair.0, value) ∷ (before ++ behind))
+    pub replaced : (before : List (K × V)) (pair : K × V) (after : List (K × V)) → uses_of old ≡ before ++ pair ∷ after → eq key pair.0 ≡ true
+        → IsOk result × (uses_of new ≡ (pair.0, value) ∷ (before ++ after))
     -- a new key in a store that isn't full drops nothing
     pub added : (shelf_of eq old).held key ≡ None → count_of old < capacity_of old → OnOk result (uses_of new ≡ (key, value) ∷ uses_of old)
     -- a new key in a full store drops the least recently used pair, and that is seen

@@ -100,13 +100,13 @@ LastPiece-whole path h = record {
 LastPiece-slash : (front name : Bytes) → HasNoSlash name → LastPiece (front ++ 47 ∷ name) (length front + 1)
 LastPiece-slash front name h =
     let same : front ++ 47 ∷ name ≡ (front ++ 47 ∷ []) ++ name = sym (append_assoc front (47 ∷ []) name) in
-    let behind : drop (length front + 1) (front ++ 47 ∷ name) ≡ name = ap (λ (bs : Bytes). drop (length front + 1) bs) same ∙ drop_at (front ++ 47 ∷ []) name (length front + 1) (length_push front 47) in
+    let after : drop (length front + 1) (front ++ 47 ∷ name) ≡ name = ap (λ (bs : Bytes). drop (length front + 1) bs) same ∙ drop_at (front ++ 47 ∷ []) name (length front + 1) (length_push front 47) in
     let before : take (length front + 1) (front ++ 47 ∷ name) ≡ front ++ 47 ∷ [] = ap (λ (bs : Bytes). take (length front + 1) bs) same ∙ take_at (front ++ 47 ∷ []) name (length front + 1) (length_push front 47) in
     let apart : take (length front + 1 - 1) (front ++ 47 ∷ name) ≡ front = take_at front (47 ∷ name) (length front + 1 - 1) (omega arith) in
     record {
       others = pieces front;
       within = omega (arith, length-append front (47 ∷ name));
-      apart = pieces-append front name ∙ ap (λ (ps : List Bytes). pieces front ++ ps) h.one ∙ ap (λ (n : Bytes). pieces front ++ n ∷ []) (sym behind);
+      apart = pieces-append front name ∙ ap (λ (ps : List Bytes). pieces front ++ ps) h.one ∙ ap (λ (n : Bytes). pieces front ++ n ∷ []) (sym after);
       put = λ other. join-pieces_push front other ∙ sym (append_assoc front (47 ∷ []) other) ∙ ap (λ (bs : Bytes). bs ++ other) (sym before);
       first = λ none. absurd (omega arith);
       later = λ some. ap pieces apart;

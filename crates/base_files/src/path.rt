@@ -124,9 +124,9 @@ pub fn paths_have_one_order()
 {}
 
 /// Where the part after the last such byte begins: 0 if there is none.
-fn behind_last(bytes: &[u8], byte: u8) -> usize
-    ensures { let behind = suffix_len (λ other. not (other == byte)) bytes.now in
-        result ≡ length bytes.now - behind }
+fn index_after_last(bytes: &[u8], byte: u8) -> usize
+    ensures { let after = suffix_len (λ other. not (other == byte)) bytes.now in
+        result ≡ length bytes.now - after }
 {
     let mut end = bytes.len();
     while end > 0 && bytes[end - 1] != byte {
@@ -146,7 +146,7 @@ fn up_to_last(path: &[u8]) -> Option<(&[u8], usize)>
 {
     let mut rest = path;
     loop {
-        let start = behind_last(rest, b'/');
+        let start = index_after_last(rest, b'/');
         if counts(&rest[start..]) {
             return Some((rest, start));
         }
@@ -184,12 +184,8 @@ pub fn file_name(path: &[u8]) -> Option<&[u8]>
 fn stem(name: &[u8]) -> &[u8]
     ensures { result.now ≡ stem name.now }
 {
-    let behind = behind_last(name, b'.');
-    if behind > 1 {
-        &name[..behind - 1]
-    } else {
-        name
-    }
+    let after = index_after_last(name, b'.');
+    if after > 1 { &name[..after - 1] } else { name }
 }
 
 /// What follows the last dot of the file name, unless that dot is its first byte.
@@ -197,9 +193,9 @@ pub fn extension(path: &[u8]) -> Option<&[u8]>
     ensures { option_copied result ≡ extension path.now }
 {
     let name = file_name(path)?;
-    let behind = behind_last(name, b'.');
-    if behind > 1 {
-        Some(&name[behind..])
+    let after = index_after_last(name, b'.');
+    if after > 1 {
+        Some(&name[after..])
     } else {
         None
     }

@@ -193,9 +193,9 @@ fn read_times<T: Field>(
     let mut all = Vec::new(alloc);
     let mut rest = bytes;
     'all: for _ in 0..count {
-        let (value, behind) = T::read(alloc, rest)?;
+        let (value, after) = T::read(alloc, rest)?;
         all.push(value)?;
-        rest = behind;
+        rest = after;
     }
     Ok((all, rest))
 }

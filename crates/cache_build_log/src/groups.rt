@@ -26,7 +26,7 @@ struct Found {
 }
 
 /// A text without a front, where it has that.
-fn behind<'a>(text: &'a str, front: &str) -> Option<&'a str> {
+fn after<'a>(text: &'a str, front: &str) -> Option<&'a str> {
     text.strip_prefix(front)
 }
 
@@ -38,10 +38,10 @@ pub fn maker_of(alloc: Global, why: &str) -> Result<String, AllocError> {
     if why == "the first call that was compiled" {
         return String::from_str(alloc, "the first time");
     }
-    if let Some(file) = behind(why, "text: lines of ") {
+    if let Some(file) = after(why, "text: lines of ") {
         return format!(in alloc; "by {file}");
     }
-    if let Some(rest) = behind(why, "word ") {
+    if let Some(rest) = after(why, "word ") {
         if let Some((_, words)) = rest.split_once(": ") {
             return format!(in alloc; "by {words}");
         }

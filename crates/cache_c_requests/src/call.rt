@@ -10,7 +10,7 @@ use crate::precompiled::refuse_precompiled;
 use crate::specs::add_specs;
 use base_files::{Listed, OsBytes};
 use cache_host::{ADDITIONS_VARIABLE, Additions, CommandLine, Host, HostError};
-use cache_known_options::{Beside, PlacedWords, behind_front, beside_of, ends_with, is_read};
+use cache_known_options::{Beside, PlacedWords, after_front, beside_of, ends_with, is_read};
 use cache_settings::Key;
 use cmdlines_tables::CCompilerKind;
 use std::alloc::Global;
@@ -63,7 +63,7 @@ fn env_of(
 fn tells_place(word: &[u8], allows: bool) -> bool {
     ends_with(&WITHOUT_FOLDER, word)
         || ends_with(&LANGUAGES, word)
-        || (allows && behind_front(&FOR_ASSEMBLER, word).is_some())
+        || (allows && after_front(&FOR_ASSEMBLER, word).is_some())
 }
 
 /// Whether an object may have the input's place in it, though no text shows that.

@@ -4,7 +4,7 @@
 use base_files::OsBytes;
 use cache_host::{CommandLine, HostError};
 use cache_known_options::{
-    PlacedWords, behind_front, beside_of, for_preprocessor, is_among, odd_dependency_file,
+    PlacedWords, after_front, beside_of, for_preprocessor, is_among, odd_dependency_file,
     side_ending, unknown_word,
 };
 use cache_settings::Key;
@@ -164,7 +164,7 @@ fn word_running_others(kind: CCompilerKind, words: &[OsBytes]) -> Option<&OsByte
     }
     words
         .iter()
-        .find(|word| behind_front(&RUNNING, word.as_bytes()).is_some())
+        .find(|word| after_front(&RUNNING, word.as_bytes()).is_some())
 }
 
 /// Whether a word says of which language the inputs after it are.

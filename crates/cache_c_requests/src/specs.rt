@@ -7,7 +7,7 @@ use base_files::OsBytes;
 use cache_dir::digest_of;
 use cache_disk::read_whole;
 use cache_host::{Additions, CommandLine, Host, HostError, messages_of, push_words};
-use cache_known_options::{behind_front, names_specs};
+use cache_known_options::{after_front, names_specs};
 use cmdlines_tables::CCompilerKind;
 use memchr::memmem;
 use std::io::Read;
@@ -72,7 +72,7 @@ fn calls_clear_ones(text: &[u8]) -> bool {
         let Some(call) = text.get(at..) else {
             return false;
         };
-        if behind_front(&CLEAR, call).is_none() {
+        if after_front(&CLEAR, call).is_none() {
             return false;
         }
     }

@@ -142,13 +142,13 @@ pub(crate) fn short_text(alloc: Global, text: &[u8]) -> Result<OsBytes, AllocErr
         if rest.is_empty() {
             break;
         }
-        let (lines, behind) = cut(rest);
+        let (lines, after) = cut(rest);
         if let Some(marked) = name_ahead(lines) {
             name = marked;
             files.take_name(name);
         }
         files.take_lines(name, lines)?;
-        rest = behind;
+        rest = after;
     }
     files.into_text(alloc)
 }

@@ -42,9 +42,9 @@ fn numbers_of(alloc: Global, bytes: &[u8]) -> Result<Vec<u64>, CacheDirError> {
     let mut numbers = Vec::new(alloc);
     let mut rest = bytes;
     for _ in 0..ROWS {
-        let (number, behind) = read_number(rest)?;
+        let (number, after) = read_number(rest)?;
         numbers.push(number)?;
-        rest = behind;
+        rest = after;
     }
     Ok(numbers)
 }

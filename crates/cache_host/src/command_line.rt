@@ -66,7 +66,7 @@ impl<'a> Variables for LineVariables<'a> {
 }
 
 /// When the host made the file of that path, which nothing was written into yet. That clock goes on by the ticks of the kernel, so it may be
-/// well behind the other one. Where it can't be read, at a moment before which no file was changed.
+/// well before the other one. Where it can't be read, at a moment before which no file was changed.
 fn made_at<R: Files>(rt: &R, path: &str) -> FileTime {
     match fs::metadata(rt, path) {
         Ok(found) => time_of(found.mtime(), found.mtime_nsec()),

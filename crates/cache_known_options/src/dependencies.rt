@@ -3,7 +3,7 @@
 //! them on: after all other words.
 
 use crate::handed_on::definitions_in;
-use crate::placed::{Placed, PlacedWords, behind_front, is_among};
+use crate::placed::{Placed, PlacedWords, after_front, is_among};
 use crate::text_words::{OF_DEPENDENCIES, with_ending};
 use base_files::{Listed, OsBytes};
 use memchr::memrchr;
@@ -23,17 +23,17 @@ const OF_TARGET: [&str; 2] = ["-MT", "-MQ"];
 
 /// Whether a word names the target, or takes the next one as its name.
 pub(crate) fn begins_with_target(word: &[u8]) -> bool {
-    behind_front(&OF_TARGET, word).is_some()
+    after_front(&OF_TARGET, word).is_some()
 }
 
 /// The path of the dependency file in a word for the preprocessor, and what comes before it.
 pub fn for_preprocessor(word: &[u8]) -> Option<(&'static str, &[u8])> {
-    behind_front(&FOR_PREPROCESSOR, word)
+    after_front(&FOR_PREPROCESSOR, word)
 }
 
 /// The target in a word for the preprocessor.
 pub(crate) fn target_for_preprocessor(word: &[u8]) -> Option<&[u8]> {
-    let (_, target) = behind_front(&TARGETS_FOR_PREPROCESSOR, word)?;
+    let (_, target) = after_front(&TARGETS_FOR_PREPROCESSOR, word)?;
     Some(target)
 }
 

@@ -15,7 +15,7 @@ mod words;
 
 pub use beside::{Beside, beside_of};
 pub use dependencies::{Dependencies, dependencies_of, for_preprocessor, odd_dependency_file};
-pub use placed::{Placed, PlacedWords, behind_front, ends_with, is_among};
+pub use placed::{Placed, PlacedWords, after_front, ends_with, is_among};
 pub use prefix_maps::PrefixMaps;
 pub use side_files::{SideFiles, side_ending};
 pub use variables::is_read;

@@ -43,7 +43,7 @@ pub fn is_among(words: &[&str], word: &[u8]) -> bool {
 }
 
 /// The first of these with which a word begins, and what comes after it.
-pub fn behind_front<'a>(
+pub fn after_front<'a>(
     fronts: &[&'static str],
     word: &'a [u8],
 ) -> Option<(&'static str, &'a [u8])> {

@@ -2,7 +2,7 @@
 //! nor the object has it, such a word counts only by what the name of the call's folder comes to. So the session isn't given OLD: calls in other
 //! folders, and calls with other names that don't occur, have the same key.
 
-use crate::placed::{Placed, PlacedWords, behind_front, is_among};
+use crate::placed::{Placed, PlacedWords, after_front, is_among};
 use base_files::OsBytes;
 use memchr::{memchr, memchr2, memmem};
 use std::alloc::{AllocError, Global};
@@ -38,7 +38,7 @@ const MARKER_END: &[u8] = b"//\"\n";
 /// What stands in its place where debug information has another name for the folder.
 const WITHOUT_NAME: &[u8] = b"# 1 \"<folder>\"\n";
 
-/// What the session is given such a word behind, so that include records alone hang on it: by their key the text isn't known yet.
+/// The word before which the session is given such a word, so that include records alone depend on it: by their key the text isn't known yet.
 const AS_FOLDER: &[u8] = b"-I";
 
 /// Whether a name is in markers as it is.
@@ -50,7 +50,7 @@ fn is_plain(name: &[u8]) -> bool {
 /// Whether by that word an object may have names of folders whatever maps say.
 fn keeps_names(word: &[u8]) -> bool {
     let is_debug = word.starts_with(b"-g");
-    let is_dwarf = behind_front(&OF_DWARF, word).is_some() || is_among(&LEVELS, word);
+    let is_dwarf = after_front(&OF_DWARF, word).is_some() || is_among(&LEVELS, word);
     word.starts_with(b"-flto") || (is_debug && !is_dwarf)
 }
 
@@ -177,7 +177,7 @@ impl PrefixMaps {
         if placed.option.is_some() {
             return Ok(true);
         }
-        let Some((front, value)) = behind_front(&FRONTS, word) else {
+        let Some((front, value)) = after_front(&FRONTS, word) else {
             return Ok(!keeps_names(word));
         };
         let Some((old, new)) = names_in(value) else {
@@ -247,11 +247,11 @@ impl PrefixMaps {
         text: Vec<u8>,
     ) -> Result<Vec<u8>, AllocError> {
         match marked(text.as_slice(), dir) {
-            Some((before, behind)) if self.is_of_debug => {
+            Some((before, after)) if self.is_of_debug => {
                 let mut without = Vec::with_capacity(alloc, text.len())?;
                 without.extend_from_slice(before)?;
                 without.extend_from_slice(WITHOUT_NAME)?;
-                without.extend_from_slice(behind)?;
+                without.extend_from_slice(after)?;
                 Ok(without)
             }
             _ => Ok(text),
@@ -264,8 +264,8 @@ fn marked<'a>(text: &'a [u8], dir: &[u8]) -> Option<(&'a [u8], &'a [u8])> {
     let first = memchr(b'\n', text)?.saturating_add(1);
     let (before, marker) = text.split_at_checked(first)?;
     let name = marker.strip_prefix(MARKER)?;
-    let behind = name.strip_prefix(dir)?.strip_prefix(MARKER_END)?;
-    Some((before, behind))
+    let after = name.strip_prefix(dir)?.strip_prefix(MARKER_END)?;
+    Some((before, after))
 }
 
 /// The words of a call of GCC that map names, for that folder, in which it runs; none where an object may have these names all the same.

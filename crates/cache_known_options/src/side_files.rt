@@ -3,7 +3,7 @@
 //! what the compile wrote is kept beside its messages.
 
 use crate::dependencies::file_name;
-use crate::placed::{Placed, PlacedWords, behind_front};
+use crate::placed::{Placed, PlacedWords, after_front};
 use crate::text_words::{object_in, with_ending};
 use base_files::{Listed, OsBytes};
 use std::alloc::{AllocError, Global};
@@ -32,7 +32,7 @@ pub fn side_ending(word: &[u8]) -> Option<&'static str> {
             return Some(*ending);
         }
     }
-    match behind_front(&OF_PROFILES, word) {
+    match after_front(&OF_PROFILES, word) {
         Some(_) => Some(""),
         None => None,
     }

@@ -1,6 +1,6 @@
 //! The variables that compilers read. Others, which shells and Make set from call to call, change nothing of what a compiler makes.
 
-use crate::placed::{behind_front, ends_with, is_among};
+use crate::placed::{after_front, ends_with, is_among};
 
 /// Variables by their names: of GCC's and Clang's manuals, and what GCC 12, Clang 14 and GNU's assembler ask for as they run. What they ask
 /// for besides isn't here: where temporary files lie (`TMPDIR`, `TMP`, `TEMP`, `TEMPDIR`), whether a terminal has colours (`TERM`), where
@@ -42,5 +42,5 @@ const ENDINGS: [&str; 2] = ["_DEPLOYMENT_TARGET", "_ROOT"];
 
 /// Whether a compiler reads the variable of that name.
 pub fn is_read(name: &[u8]) -> bool {
-    is_among(&NAMES, name) || behind_front(&FRONTS, name).is_some() || ends_with(&ENDINGS, name)
+    is_among(&NAMES, name) || after_front(&FRONTS, name).is_some() || ends_with(&ENDINGS, name)
 }

@@ -2,7 +2,7 @@
 
 use crate::dependencies::{for_preprocessor, target_for_preprocessor};
 use crate::handed_on::definitions_in;
-use crate::placed::{Placed, PlacedWords, behind_front, is_among, takes_any, takes_next};
+use crate::placed::{Placed, PlacedWords, after_front, is_among, takes_any, takes_next};
 use crate::side_files::side_ending;
 use crate::tables::{ASSEMBLER, CLANG, LLVM, VALUED, WHOLE};
 use base_files::OsBytes;
@@ -60,7 +60,7 @@ const OFF: [&str; 4] = [
 
 /// Whether a word begins with one of these.
 fn begins_with(fronts: &[&'static str], word: &[u8]) -> bool {
-    behind_front(fronts, word).is_some()
+    after_front(fronts, word).is_some()
 }
 
 /// Whether a word names a file of specs.
@@ -69,13 +69,13 @@ pub fn names_specs(word: &[u8]) -> bool {
 }
 
 /// What comes after a front with which a word of the table begins, up to that word's end.
-fn rest_behind<'a>(table: &'a str, front: &[u8]) -> Option<&'a [u8]> {
+fn rest_after<'a>(table: &'a str, front: &[u8]) -> Option<&'a [u8]> {
     let table = table.as_bytes();
     let at = memmem::find(table, front)?;
-    let behind = table.get(at..)?.strip_prefix(front)?;
-    match memchr(b' ', behind) {
-        Some(end) => behind.get(..end),
-        None => Some(behind),
+    let after = table.get(at..)?.strip_prefix(front)?;
+    match memchr(b' ', after) {
+        Some(end) => after.get(..end),
+        None => Some(after),
     }
 }
 
@@ -144,7 +144,7 @@ fn is_valued(alloc: Global, table: &str, word: &[u8]) -> Result<bool, AllocError
     }
     let mut front = front_of(alloc, option)?;
     front.push(b'=')?;
-    match rest_behind(table, front.as_slice()) {
+    match rest_after(table, front.as_slice()) {
         Some(said) => Ok(fits(said, value.strip_prefix(b"=").unwrap_or(value))),
         None => Ok(false),
     }
@@ -197,7 +197,7 @@ fn is_file(path: &[u8]) -> bool {
 
 /// Whether a word that begins with one of `FRONTS`, and may contain a path, is known.
 fn is_known_front(word: &[u8]) -> bool {
-    match behind_front(&NAME_FILES, word) {
+    match after_front(&NAME_FILES, word) {
         Some((_, path)) => is_file(path) && !begins_with(&OTHERS, word),
         None => !begins_with(&OTHERS, word),
     }

@@ -98,7 +98,7 @@ fn names_for<P: Print + Files + AllocGlobal, I: Read>(
 }
 
 /// What a text on dependencies says of them, after the target of its first rule.
-fn behind_target(text: &[u8]) -> &[u8] {
+fn after_target(text: &[u8]) -> &[u8] {
     match memmem::find(text, b": ") {
         Some(at) => text.get(at..).unwrap_or(text),
         None => text,
@@ -114,7 +114,7 @@ fn sources_variable(alloc: Global, text: &[u8]) -> Result<(OsBytes, OsBytes), Ho
 
 /// Binds to the key of a request what a text says of its crate.
 fn bind_sources(alloc: Global, text: &[u8], request: &mut Request) -> Result<(), HostError> {
-    let sources = sources_variable(alloc, behind_target(text))?;
+    let sources = sources_variable(alloc, after_target(text))?;
     Ok(request.env.push(sources)?)
 }
 

@@ -1,4 +1,4 @@
-//! The rustc of a command line: its real file behind rustup's proxy, its version, its folder of libraries, and the digest of these. What a
+//! The rustc of a command line: its real file, not rustup's proxy, its version, its folder of libraries, and the digest of these. What a
 //! session is asked about a call of it: why it isn't asked at all, for which words are known, and what is bound to the key beside what it
 //! hashes itself. And what is kept of such calls: results with their messages, and of what their keys were made, for whoever asks why one was
 //! compiled.

@@ -38,7 +38,7 @@ fn is_plain(folder: &[u8]) -> bool {
 }
 
 /// The rest of a path after a folder and its slash.
-fn behind_folder<'a>(path: &'a [u8], folder: &[u8]) -> Option<&'a [u8]> {
+fn after_folder<'a>(path: &'a [u8], folder: &[u8]) -> Option<&'a [u8]> {
     path.strip_prefix(folder)?.strip_prefix(b"/")
 }
 
@@ -50,7 +50,7 @@ fn push_moved(
     moved: &mut Vec<u8>,
 ) -> Result<bool, AllocError> {
     if let Some((front, path)) = path_in(line) {
-        if let Some(rest) = behind_folder(path, old) {
+        if let Some(rest) = after_folder(path, old) {
             moved.extend_from_slice(front)?;
             moved.extend_from_slice(new)?;
             moved.push(b'/')?;

@@ -28,7 +28,7 @@ fn before_equals(word: &[u8]) -> &[u8] {
 }
 
 /// What comes after an option's own letters: nothing where it is another option, or its value is the next word.
-fn value_behind<'a>(option: &str, word: &'a [u8]) -> Option<&'a [u8]> {
+fn value_after<'a>(option: &str, word: &'a [u8]) -> Option<&'a [u8]> {
     let rest = word.strip_prefix(option.as_bytes())?;
     let rest = match option.starts_with("--") {
         true => rest.strip_prefix(b"=")?,
@@ -41,9 +41,9 @@ fn value_behind<'a>(option: &str, word: &'a [u8]) -> Option<&'a [u8]> {
 }
 
 /// What comes after the letters of the first of these options that has a value in the word.
-fn value_behind_one<'a>(options: &[&str], word: &'a [u8]) -> Option<&'a [u8]> {
+fn value_after_one<'a>(options: &[&str], word: &'a [u8]) -> Option<&'a [u8]> {
     for option in options {
-        if let Some(value) = value_behind(option, word) {
+        if let Some(value) = value_after(option, word) {
             return Some(value);
         }
     }
@@ -82,13 +82,13 @@ fn is_known(word: &[u8]) -> bool {
     if is_among(&FLAGS, word) || takes_next(word) || is_among(&VALUED, before_equals(word)) {
         return true;
     }
-    if value_behind_one(&LETTERS, word).is_some() {
+    if value_after_one(&LETTERS, word).is_some() {
         return true;
     }
-    if let Some(value) = value_behind(FOLDER, word) {
+    if let Some(value) = value_after(FOLDER, word) {
         return is_known_folder(value);
     }
-    match value_behind_one(&GENERATION, word) {
+    match value_after_one(&GENERATION, word) {
         Some(value) => is_known_codegen(value),
         None => false,
     }

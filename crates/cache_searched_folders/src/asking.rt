@@ -9,7 +9,7 @@ use base_files::{FileTime, Listed, OsBytes};
 use base_formats::{put_framed, read_framed};
 use cache_dir::{Kind, digest_of, state_of};
 use cache_host::{CommandLine, Host, LETTERS, Said, messages_of, push_words};
-use cache_known_options::{PlacedWords, behind_front, is_among, is_read, names_specs};
+use cache_known_options::{PlacedWords, after_front, is_among, is_read, names_specs};
 use cache_watch_lists::{Unwatched, holds};
 use std::alloc::{AllocError, Global};
 use std::io::Read;
@@ -27,7 +27,7 @@ const VERSION: &[u8] = b"2";
 /// Whether a word that is no value says where files are looked for.
 fn says_where(word: &[u8]) -> bool {
     word.starts_with(b"-")
-        && behind_front(&FRONTS, word).is_none()
+        && after_front(&FRONTS, word).is_none()
         && !is_among(&STEPS, word)
         && !word.starts_with(b"-Wp,")
 }
@@ -63,7 +63,7 @@ fn put_state<R: Files + AllocGlobal>(
     Ok(())
 }
 
-/// Adds these words, with an empty one behind them.
+/// Adds these words, with an empty one after them.
 fn put_words(words: &[OsBytes], row: &mut Vec<u8>) -> Result<(), AllocError> {
     for word in words {
         put_framed(row, word.as_bytes())?;

@@ -7,7 +7,7 @@ use std::alloc::Global;
 /// A folder in which names are looked for.
 #[derive(Drop)]
 pub(crate) struct Place {
-    /// Its path, without a slash behind it: that of the topmost folder is empty.
+    /// Its path, without a slash after it: that of the topmost folder is empty.
     pub(crate) path: String,
     /// Its number, where something was looked for there.
     pub(crate) number: Option<usize>,
@@ -31,7 +31,7 @@ pub(crate) struct Name<'n> {
     pub(crate) plain: Option<PlainName<'n>>,
 }
 
-/// The path of a folder, which may be one of the call's, with a slash behind it.
+/// The path of a folder, which may be one of the call's, with a slash after it.
 pub(crate) fn path_of(alloc: Global, dir: &[u8], folder: &[u8]) -> Result<String, Unwatched> {
     let folder = join(alloc, dir, folder)?;
     let path = join(alloc, folder.as_bytes(), b"")?;
@@ -41,7 +41,7 @@ pub(crate) fn path_of(alloc: Global, dir: &[u8], folder: &[u8]) -> Result<String
     }
 }
 
-/// The path of a folder of which that one has no slash behind it.
+/// The path of a folder of which that one has no slash after it.
 pub(crate) fn or_topmost(path: &str) -> &str {
     if path.is_empty() { "/" } else { path }
 }

@@ -15,7 +15,7 @@ const LEFT_OUT: [&str; 2] = [
     "ignoring duplicate directory \"",
 ];
 
-/// How a GCC's line ends on what it was told to look in and is no folder: that may become one.
+/// How a GCC's line ends on what it should look in and is no folder: that may become one.
 const NO_FOLDER: &str = ": not a directory";
 
 /// What Clang says of a GCC whose headers it may take.
@@ -43,11 +43,11 @@ enum Part {
     Before,
     Quoted,
     Bracketed,
-    Behind,
+    After,
 }
 
 /// What comes after one of these at the front of a line.
-fn behind_front<'a>(line: &'a str, fronts: &[&str]) -> Option<&'a str> {
+fn after_front<'a>(line: &'a str, fronts: &[&str]) -> Option<&'a str> {
     for front in fronts {
         if let Some(rest) = line.strip_prefix(*front) {
             return Some(rest);
@@ -69,10 +69,10 @@ impl<'a> SearchList<'a> {
 
     /// Takes a line outside of the list.
     fn take_remark(&mut self, line: &'a str) -> Result<(), AllocError> {
-        if let Some(folder) = behind_front(line, &LEFT_OUT) {
+        if let Some(folder) = after_front(line, &LEFT_OUT) {
             self.left_out.push(folder.trim_end_matches('"'))?;
         }
-        if let Some(folder) = behind_front(line, &INSTALLATIONS) {
+        if let Some(folder) = after_front(line, &INSTALLATIONS) {
             self.installations.push(folder)?;
         }
         Ok(())
@@ -83,7 +83,7 @@ impl<'a> SearchList<'a> {
         match line {
             QUOTED => return Ok(Part::Quoted),
             BRACKETED => return Ok(Part::Bracketed),
-            END => return Ok(Part::Behind),
+            END => return Ok(Part::After),
             _ => {}
         }
         match (part, line.strip_prefix(' ')) {
@@ -109,7 +109,7 @@ impl<'a> SearchList<'a> {
             part = list.take(part, line)?;
         }
         Ok(match part {
-            Part::Behind => Some(list),
+            Part::After => Some(list),
             _ => None,
         })
     }

@@ -16,8 +16,8 @@ const INCLUDES: [(&[u8], bool); 3] = [
 /// What a line includes, where it is that of an include, and whether that looks in the folders after its own.
 fn included_in(line: &[u8]) -> Option<(&[u8], bool)> {
     for (front, is_next) in INCLUDES.iter() {
-        if let Some(behind) = line.strip_prefix(*front) {
-            return Some((behind, *is_next));
+        if let Some(after) = line.strip_prefix(*front) {
+            return Some((after, *is_next));
         }
     }
     None

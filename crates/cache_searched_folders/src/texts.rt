@@ -7,7 +7,7 @@ use crate::watching::Watching;
 use base_files::{FileTime, OsBytes};
 use cache_disk::folder_of;
 use cache_host::CommandLine;
-use cache_known_options::{Placed, PlacedWords, behind_front, is_among};
+use cache_known_options::{Placed, PlacedWords, after_front, is_among};
 use cache_source_directives::{
     Asked, Directives, Search, add_defined, add_probed, add_said, asks_for_files, directives_of,
     has_markers, may_define, pastes_time, tells_time,
@@ -300,7 +300,7 @@ fn taken_in(placed: Placed<'_>) -> Option<&[u8]> {
         Some(option) if is_among(&TAKING_IN, option.as_bytes()) => Some(word),
         Some(_) => None,
         None if placed.takes_value() => None,
-        None => Some(behind_front(&TAKING_IN, word)?.1),
+        None => Some(after_front(&TAKING_IN, word)?.1),
     }
 }
 
@@ -334,7 +334,7 @@ fn names_other_set(word: &[u8]) -> bool {
 fn are_own_ways(words: &[OsBytes]) -> bool {
     for word in words {
         let word = word.as_bytes();
-        if behind_front(&OWN_WAYS, word).is_some() || names_other_set(word) {
+        if after_front(&OWN_WAYS, word).is_some() || names_other_set(word) {
             return true;
         }
     }

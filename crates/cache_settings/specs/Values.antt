@@ -43,9 +43,9 @@ digit_in [] = None
 digit_in (byte ∷ text) = if is_digit byte then Some (byte - 48, text) else None
 
 -- The number that these digits spell when appended to the number begun so far, and what comes after them.
-abbrev pub digits_behind : ℕ → List ℕ → ℕ × List ℕ
-digits_behind begun [] = (begun, [])
-digits_behind begun (byte ∷ text) = if is_digit byte then digits_behind (10 * begun + (byte - 48)) text else (begun, byte ∷ text)
+abbrev pub digits_after : ℕ → List ℕ → ℕ × List ℕ
+digits_after begun [] = (begun, [])
+digits_after begun (byte ∷ text) = if is_digit byte then digits_after (10 * begun + (byte - 48)) text else (begun, byte ∷ text)
 
 -- A number that 64 bits hold.
 abbrev pub held : ℕ → Option ℕ
@@ -58,7 +58,7 @@ held_ahead found = if nat_lt found.0 (2 ^ 64) then Some found else None
 -- The number whose digits begin a text, and what comes after them.
 abbrev pub number_in : List ℕ → Option (ℕ × List ℕ)
 number_in [] = None
-number_in (byte ∷ text) = if is_digit byte then held_ahead (digits_behind 0 (byte ∷ text)) else None
+number_in (byte ∷ text) = if is_digit byte then held_ahead (digits_after 0 (byte ∷ text)) else None
 
 -- A whole number followed by a unit.
 abbrev pub measured : (List ℕ → Option ℕ) → List ℕ → Option ℕ

@@ -76,7 +76,7 @@ pub fn number_in(storage: &str, name: &str, usual: u32) -> u32 {
     }
 }
 
-/// The parts of an address round who may ask there: what comes before the first `//`, and behind the last `@`. Nothing where it names nobody.
+/// The parts of an address round who may ask there: what comes before the first `//`, and after the last `@`. Nothing where it names nobody.
 fn round_user(address: &str) -> Option<(&str, &str)> {
     let (front, rest) = address.split_once("//")?;
     let (_, server) = rest.rsplit_once('@')?;

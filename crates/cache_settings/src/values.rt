@@ -9,7 +9,7 @@ fn digit_ahead(text: &[u8]) -> Option<(u64, &[u8])>
     ensures { option_map (λ found. (found.0, found.1.now)) result ≡ digit_in text.now }
 {
     match text {
-        [byte @ b'0'..=b'9', behind @ ..] => Some((u64::from(*byte - b'0'), behind)),
+        [byte @ b'0'..=b'9', after @ ..] => Some((u64::from(*byte - b'0'), after)),
         _ => None,
     }
 }
@@ -28,9 +28,9 @@ fn number_ahead(text: &[u8]) -> Option<(u64, &[u8])>
 {
     let mut number = 0u64;
     let mut rest = text;
-    'digits: while let Some((digit, behind)) = digit_ahead(rest) {
+    'digits: while let Some((digit, after)) = digit_ahead(rest) {
         number = with_digit(number, digit)?;
-        rest = behind;
+        rest = after;
     }
     if rest.len() == text.len() {
         return None;

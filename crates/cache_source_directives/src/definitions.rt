@@ -1,6 +1,6 @@
 //! What a macro stands for: the name of a file, by its definitions in sources and by those of a command.
 
-use crate::directives::{Asked, behind_spaces, is_letter, is_space, name_ahead};
+use crate::directives::{Asked, after_spaces, is_letter, is_space, name_ahead};
 use memchr::memmem;
 use std::alloc::AllocError;
 
@@ -41,26 +41,26 @@ fn may_be_defined(front: &[u8]) -> bool {
 }
 
 /// The name of a file in quotes or brackets, where a line has nothing else but a comment after it.
-pub fn name_alone(behind: &[u8]) -> Option<Asked<'_>> {
-    let operand = behind_spaces(behind);
+pub fn name_alone(after: &[u8]) -> Option<Asked<'_>> {
+    let operand = after_spaces(after);
     let asked = name_ahead(operand)?;
     // The name has a mark on each side.
     let rest = operand.get(asked.name.len().saturating_add(2)..)?;
-    match behind_spaces(rest) {
+    match after_spaces(rest) {
         [] | [b'\n', ..] | [b'/', b'*' | b'/', ..] => Some(asked),
         _ => None,
     }
 }
 
 /// What comes after a name at that place of a source, where a macro of that name may be defined there.
-pub(crate) fn behind_defined<'a>(source: &'a [u8], at: usize, name: &[u8]) -> Option<&'a [u8]> {
+pub(crate) fn after_defined<'a>(source: &'a [u8], at: usize, name: &[u8]) -> Option<&'a [u8]> {
     let front = source.get(..at).unwrap_or(&[]);
-    let behind = source.get(at.saturating_add(name.len())..).unwrap_or(&[]);
-    let is_longer = matches!(behind, [byte, ..] if is_letter(*byte));
+    let after = source.get(at.saturating_add(name.len())..).unwrap_or(&[]);
+    let is_longer = matches!(after, [byte, ..] if is_letter(*byte));
     if is_longer || !may_be_defined(front) {
         return None;
     }
-    Some(behind)
+    Some(after)
 }
 
 /// Adds what a macro stands for whose name comes at that place of a source, if it may be defined there. False where that may be anything but
@@ -71,10 +71,10 @@ fn add_defined_at<'a>(
     name: &[u8],
     found: &mut Vec<Asked<'a>>,
 ) -> Result<bool, AllocError> {
-    let Some(behind) = behind_defined(source, at, name) else {
+    let Some(after) = after_defined(source, at, name) else {
         return Ok(true);
     };
-    let Some(asked) = name_alone(behind) else {
+    let Some(asked) = name_alone(after) else {
         return Ok(false);
     };
     found.push(asked)?;
@@ -105,7 +105,7 @@ pub fn add_said<'a>(
 ) -> Result<bool, AllocError> {
     let value = definition
         .strip_prefix(name)
-        .and_then(|behind| behind.strip_prefix(b"="));
+        .and_then(|after| after.strip_prefix(b"="));
     let Some(asked) = value.and_then(name_alone) else {
         return Ok(false);
     };

@@ -3,7 +3,7 @@
 //! Which of them are live depends on macros, so all of them count: those in comments too. Where it isn't clear what is asked for, as where a
 //! macro stands for the name, there is no answer.
 
-use crate::guards::guard_behind;
+use crate::guards::guard_after;
 use crate::hidden::{PIECE, has_pragma, pastes_probe};
 use crate::splices::cuts_names;
 use memchr::{memchr, memchr_iter, memmem, memrchr};
@@ -106,7 +106,7 @@ pub(crate) fn is_letter(byte: u8) -> bool {
 }
 
 /// What comes after spaces.
-pub(crate) fn behind_spaces(text: &[u8]) -> &[u8] {
+pub(crate) fn after_spaces(text: &[u8]) -> &[u8] {
     for (at, byte) in text.iter().enumerate() {
         if !is_space(*byte) {
             return text.get(at..).unwrap_or(&[]);
@@ -116,21 +116,21 @@ pub(crate) fn behind_spaces(text: &[u8]) -> &[u8] {
 }
 
 /// What comes after the comment at the front of a text. None where it isn't certain where that ends.
-fn behind_comment(text: &[u8]) -> Option<&[u8]> {
+fn after_comment(text: &[u8]) -> Option<&[u8]> {
     let inside = text.strip_prefix(b"/*")?;
-    let (comment, behind) = inside.split_at_checked(memmem::find(inside, b"*/")?)?;
+    let (comment, after) = inside.split_at_checked(memmem::find(inside, b"*/")?)?;
     // The end of a line that goes on may cut the end of a comment in two.
     if comment.contains(&b'\\') || memmem::find(comment, b"??/").is_some() {
         return None;
     }
-    behind.strip_prefix(b"*/")
+    after.strip_prefix(b"*/")
 }
 
 /// What comes after spaces, and after a comment if one comes then.
-pub(crate) fn behind_gap(text: &[u8]) -> &[u8] {
-    let text = behind_spaces(text);
-    match behind_comment(text) {
-        Some(behind) => behind_spaces(behind),
+pub(crate) fn after_gap(text: &[u8]) -> &[u8] {
+    let text = after_spaces(text);
+    match after_comment(text) {
+        Some(after) => after_spaces(after),
         None => text,
     }
 }
@@ -177,7 +177,7 @@ fn is_other_mark(text: &[u8]) -> bool {
 /// Whether a text begins with the other spelling of a `\` by which a line goes on.
 pub(crate) fn continues_line(text: &[u8]) -> bool {
     match text.strip_prefix(b"??/") {
-        Some(rest) => matches!(behind_spaces(rest), [] | [b'\n', ..]),
+        Some(rest) => matches!(after_spaces(rest), [] | [b'\n', ..]),
         None => false,
     }
 }
@@ -253,12 +253,12 @@ fn may_be_computed(operand: &[u8]) -> bool {
 
 /// The name of the macro that a line defines, and whether it takes parameters.
 fn defined_by(line: &[u8]) -> Option<(&[u8], bool)> {
-    let behind = behind_spaces(line).strip_prefix(b"#")?;
-    let (word, rest) = word_ahead(behind_spaces(behind));
+    let after = after_spaces(line).strip_prefix(b"#")?;
+    let (word, rest) = word_ahead(after_spaces(after));
     if word != b"define".as_slice() {
         return None;
     }
-    let (name, rest) = word_ahead(behind_spaces(rest));
+    let (name, rest) = word_ahead(after_spaces(rest));
     Some((name, rest.starts_with(b"(")))
 }
 
@@ -304,18 +304,18 @@ fn asks_for_file(word: &[u8], rest: &[u8]) -> bool {
 }
 
 /// What comes after a probe, and whether the probe is a `_next` one. None where its name is a part of a longer word.
-fn behind_probe(behind: &[u8]) -> Option<(&[u8], bool)> {
-    let (word, rest) = word_ahead(behind);
+fn after_probe(after: &[u8]) -> Option<(&[u8], bool)> {
+    let (word, rest) = word_ahead(after);
     let is_next = value_of(PROBE_ENDS, word)?;
     Some((rest, is_next))
 }
 
 /// Whether what comes after a comment may be what a probe asks for, or may go on with that. The text begins within the comment.
-fn goes_on_behind(comment: &[u8]) -> bool {
+fn goes_on_after(comment: &[u8]) -> bool {
     match memmem::find(comment, b"*/") {
         Some(end) => {
-            let behind = comment.get(end.saturating_add(2)..).unwrap_or(&[]);
-            matches!(behind_spaces(behind), [b'(' | b'/' | b'\\', ..])
+            let after = comment.get(end.saturating_add(2)..).unwrap_or(&[]);
+            matches!(after_spaces(after), [b'(' | b'/' | b'\\', ..])
         }
         None => true,
     }
@@ -326,8 +326,8 @@ fn goes_on_behind(comment: &[u8]) -> bool {
 fn may_go_on(rest: &[u8]) -> bool {
     match rest {
         [b'\\' | b'#', ..] => true,
-        [b',', next @ ..] => behind_spaces(next).starts_with(b"_"),
-        [b'/', b'*', comment @ ..] => goes_on_behind(comment),
+        [b',', next @ ..] => after_spaces(next).starts_with(b"_"),
+        [b'/', b'*', comment @ ..] => goes_on_after(comment),
         _ => false,
     }
 }
@@ -347,7 +347,7 @@ impl<'a> Directives<'a> {
 
     /// Takes the name at the front of what comes after a directive or a probe. False where a name is computed there.
     fn take_name(&mut self, operand: &'a [u8], is_next: bool) -> Result<bool, AllocError> {
-        let operand = behind_spaces(operand);
+        let operand = after_spaces(operand);
         let Some(Asked { name, search }) = name_ahead(operand) else {
             return Ok(!may_be_computed(operand));
         };
@@ -361,7 +361,7 @@ impl<'a> Directives<'a> {
         if self.is_unclear {
             return Ok(());
         }
-        match guard_behind(alloc, front)? {
+        match guard_after(alloc, front)? {
             Some(guard) => self.guards.push(guard)?,
             None => self.is_unclear = true,
         }
@@ -379,8 +379,8 @@ impl<'a> Directives<'a> {
         if self.take_name(operand, is_next)? {
             return Ok(());
         }
-        let (name, rest) = word_ahead(behind_spaces(operand));
-        if is_next || name.is_empty() || !behind_spaces(rest).is_empty() {
+        let (name, rest) = word_ahead(after_spaces(operand));
+        if is_next || name.is_empty() || !after_spaces(rest).is_empty() {
             return self.take_unclear(alloc, front);
         }
         self.computed.push(name)?;
@@ -389,10 +389,10 @@ impl<'a> Directives<'a> {
 
     /// Takes what comes after `pragma`. False where it asks for a file, or may do so.
     fn take_pragma(&mut self, operand: &[u8]) -> bool {
-        let operand = behind_spaces(operand);
+        let operand = after_spaces(operand);
         let (word, rest) = word_ahead(operand);
         self.is_once = self.is_once || word == b"once".as_slice();
-        !is_unread(operand) && !asks_for_file(word, behind_spaces(rest))
+        !is_unread(operand) && !asks_for_file(word, after_spaces(rest))
     }
 
     /// Takes a directive: what comes before its `#`, and what after that and after a comment there. False where it can't be determined what
@@ -401,13 +401,13 @@ impl<'a> Directives<'a> {
         &mut self,
         alloc: Global,
         front: &'a [u8],
-        behind: &'a [u8],
+        after: &'a [u8],
     ) -> Result<bool, AllocError> {
-        if behind.starts_with(b"//") {
+        if after.starts_with(b"//") {
             return Ok(true);
         }
-        let (word, operand) = word_ahead(behind);
-        if matches!(operand, [b'\\', ..]) || matches!(behind, [b'/', ..]) {
+        let (word, operand) = word_ahead(after);
+        if matches!(operand, [b'\\', ..]) || matches!(after, [b'/', ..]) {
             return Ok(false);
         }
         match value_of(KINDS, word) {
@@ -425,11 +425,11 @@ impl<'a> Directives<'a> {
     }
 
     /// Takes what comes after one probe in a line. False where it can't be determined what it asks for.
-    fn take_probe(&mut self, line: &'a [u8], behind: &'a [u8]) -> Result<bool, AllocError> {
-        let Some((rest, is_next)) = behind_probe(behind) else {
+    fn take_probe(&mut self, line: &'a [u8], after: &'a [u8]) -> Result<bool, AllocError> {
+        let Some((rest, is_next)) = after_probe(after) else {
             return Ok(true);
         };
-        let rest = behind_spaces(rest);
+        let rest = after_spaces(rest);
         if may_go_on(rest) {
             return Ok(false);
         }
@@ -441,7 +441,7 @@ impl<'a> Directives<'a> {
                 }
                 self.probes.push(name)?;
                 // What it hands on is a word.
-                let (word, _) = word_ahead(behind_spaces(operand));
+                let (word, _) = word_ahead(after_spaces(operand));
                 Ok(takes && !is_next && !word.is_empty())
             }
             // Another name for the probe.
@@ -487,8 +487,8 @@ impl<'a> Directives<'a> {
         if defines(line, probe) {
             return Ok(true);
         }
-        let behind = source.get(at.saturating_add(probe.len())..).unwrap_or(&[]);
-        self.take_probe(line, line_ahead(behind))
+        let after = source.get(at.saturating_add(probe.len())..).unwrap_or(&[]);
+        self.take_probe(line, line_ahead(after))
     }
 
     /// Takes a directive, where one begins at the mark at that place of a source. False where it can't be determined what it asks for:
@@ -497,9 +497,9 @@ impl<'a> Directives<'a> {
         let Some((front, found)) = source.split_at_checked(at) else {
             return Ok(true);
         };
-        if let Some(behind) = found.strip_prefix(b"#") {
+        if let Some(after) = found.strip_prefix(b"#") {
             return match may_begin_directive(front) {
-                true => self.take_directive(alloc, front, line_ahead(behind_gap(behind))),
+                true => self.take_directive(alloc, front, line_ahead(after_gap(after))),
                 false => Ok(true),
             };
         }

@@ -2,9 +2,9 @@
 //!
 //! One is only named where that is certain: what begins as a directive is none in a comment, in a string or in a line that goes on.
 
-use crate::definitions::{before_gap, behind_defined};
+use crate::definitions::{after_defined, before_gap};
 use crate::directives::{
-    before_spaces, behind_gap, behind_spaces, may_begin_directive, value_of, word_ahead,
+    after_gap, after_spaces, before_spaces, may_begin_directive, value_of, word_ahead,
 };
 use memchr::{memchr2_iter, memmem};
 use std::alloc::{AllocError, Global};
@@ -63,9 +63,9 @@ struct Groups<'a> {
 impl<'a> Groups<'a> {
     /// Reads on over the `*` at that place of a source. What begins as a comment counts as one, though it may be in a string.
     fn read_star(&mut self, source: &[u8], at: usize) {
-        let (front, behind) = source.split_at_checked(at).unwrap_or((source, &[]));
+        let (front, after) = source.split_at_checked(at).unwrap_or((source, &[]));
         if self.in_comment {
-            self.in_comment = !behind.starts_with(b"*/");
+            self.in_comment = !after.starts_with(b"*/");
         } else {
             self.in_comment = begins_comment(front);
         }
@@ -75,7 +75,7 @@ impl<'a> Groups<'a> {
     fn take(&mut self, kind: Kind, operand: &'a [u8]) -> Result<(), AllocError> {
         match kind {
             Kind::Guard => {
-                let (name, _) = word_ahead(behind_spaces(operand));
+                let (name, _) = word_ahead(after_spaces(operand));
                 self.open.push(name)?;
             }
             Kind::Begin => self.open.push(&[])?,
@@ -93,13 +93,13 @@ impl<'a> Groups<'a> {
 
     /// Reads on over the `#` at that place of a source. False where it isn't certain whether a group begins or ends there.
     fn read_mark(&mut self, source: &'a [u8], at: usize) -> Result<bool, AllocError> {
-        let Some((front, [_, behind @ ..])) = source.split_at_checked(at) else {
+        let Some((front, [_, after @ ..])) = source.split_at_checked(at) else {
             return Ok(true);
         };
         if !may_begin_directive(front) {
             return Ok(true);
         }
-        let (word, operand) = word_ahead(behind_gap(behind));
+        let (word, operand) = word_ahead(after_gap(after));
         let Some(kind) = value_of(KINDS, word) else {
             return Ok(true);
         };
@@ -124,7 +124,7 @@ impl<'a> Groups<'a> {
 }
 
 /// The macros that have to be defined for what comes after these bytes of a source; none where that isn't certain. Some names are empty.
-fn guards_behind(alloc: Global, front: &[u8]) -> Result<Vec<&[u8]>, AllocError> {
+fn guards_after(alloc: Global, front: &[u8]) -> Result<Vec<&[u8]>, AllocError> {
     let mut groups = Groups {
         open: Vec::new(alloc),
         in_comment: false,
@@ -146,8 +146,8 @@ fn is_users(name: &[u8]) -> bool {
 }
 
 /// A macro that has to be defined for what comes after these bytes of a source, and that no compiler defines by itself.
-pub(crate) fn guard_behind(alloc: Global, front: &[u8]) -> Result<Option<&[u8]>, AllocError> {
-    let guards = guards_behind(alloc, front)?;
+pub(crate) fn guard_after(alloc: Global, front: &[u8]) -> Result<Option<&[u8]>, AllocError> {
+    let guards = guards_after(alloc, front)?;
     for name in guards.iter() {
         if is_users(name) {
             return Ok(Some(*name));
@@ -158,10 +158,10 @@ pub(crate) fn guard_behind(alloc: Global, front: &[u8]) -> Result<Option<&[u8]>,
 
 /// Whether a source may define a macro at that place, where its name is, though it isn't defined yet.
 fn may_define_at(alloc: Global, source: &[u8], at: usize, name: &[u8]) -> Result<bool, AllocError> {
-    if behind_defined(source, at, name).is_none() {
+    if after_defined(source, at, name).is_none() {
         return Ok(false);
     }
-    let guards = guards_behind(alloc, source.get(..at).unwrap_or(&[]))?;
+    let guards = guards_after(alloc, source.get(..at).unwrap_or(&[]))?;
     Ok(!guards.contains(&name))
 }
 

@@ -2,7 +2,7 @@
 //! and a definition by a word of a command.
 
 use crate::definitions::before_gap;
-use crate::directives::{PROBE, behind_spaces, stands_alone, word_ahead};
+use crate::directives::{PROBE, after_spaces, stands_alone, word_ahead};
 use crate::times::may_be_pasted;
 use base_files::OsBytes;
 use memchr::memmem;
@@ -15,20 +15,20 @@ const PRAGMA: (&[u8], &[u8]) = (b"GCC", b"dependency");
 
 /// Whether a name before these bytes, which lacks that end of a probe's, may be pasted to it: it isn't where something else comes after `##`,
 /// as the parameter of a macro.
-fn may_be_completed(end: &[u8], behind: &[u8]) -> bool {
-    let Some(pasted) = behind_spaces(behind).strip_prefix(b"##") else {
-        return may_be_pasted(behind);
+fn may_be_completed(end: &[u8], after: &[u8]) -> bool {
+    let Some(pasted) = after_spaces(after).strip_prefix(b"##") else {
+        return may_be_pasted(after);
     };
-    let (word, _) = word_ahead(behind_spaces(pasted));
+    let (word, _) = word_ahead(after_spaces(pasted));
     end.starts_with(word)
 }
 
 /// Whether the word at that place of a text is the first piece of a probe, and may be pasted to the rest of it.
 fn pastes_at(text: &[u8], at: usize) -> bool {
-    let (name, behind) = word_ahead(text.get(at..).unwrap_or(&[]));
+    let (name, after) = word_ahead(text.get(at..).unwrap_or(&[]));
     match PROBE.strip_prefix(name) {
         Some([]) | None => false,
-        Some(end) => stands_alone(text, at) && may_be_completed(end, behind),
+        Some(end) => stands_alone(text, at) && may_be_completed(end, after),
     }
 }
 

@@ -1,6 +1,6 @@
 //! Directives by which lines of a source have other numbers, or are of another file.
 
-use crate::directives::{MARKS, behind_gap, continues_line, may_begin_directive};
+use crate::directives::{MARKS, after_gap, continues_line, may_begin_directive};
 use memchr::memchr_iter;
 
 /// The spellings of `#`.
@@ -16,8 +16,8 @@ enum Form {
 }
 
 /// The form of what comes after the `#`, where it is such a directive or may be one.
-fn form_behind(behind: &[u8]) -> Option<Form> {
-    match behind_gap(behind) {
+fn form_after(after: &[u8]) -> Option<Form> {
+    match after_gap(after) {
         [b'/', b'/', ..] => None,
         // Another comment or a line continuation may come before the word.
         [b'0'..=b'9' | b'/' | b'\\', ..] => Some(Form::Marker),
@@ -29,8 +29,8 @@ fn form_behind(behind: &[u8]) -> Option<Form> {
 /// The form of a text that begins with one of the spellings of `#`.
 fn form_of(text: &[u8]) -> Option<Form> {
     for mark in SPELLINGS {
-        if let Some(behind) = text.strip_prefix(*mark) {
-            return form_behind(behind);
+        if let Some(after) = text.strip_prefix(*mark) {
+            return form_after(after);
         }
     }
     None

@@ -5,7 +5,7 @@ use crate::directives::{is_letter, is_space};
 use memchr::memchr_iter;
 
 /// What comes after the end of a line that a text begins with. None where it begins with none.
-fn behind_line_end(text: &[u8]) -> Option<&[u8]> {
+fn after_line_end(text: &[u8]) -> Option<&[u8]> {
     match text {
         [b'\r', b'\n', rest @ ..] => Some(rest),
         [b'\n', b'\r', rest @ ..] => Some(rest),
@@ -18,7 +18,7 @@ fn behind_line_end(text: &[u8]) -> Option<&[u8]> {
 fn next_line(text: &[u8]) -> Option<&[u8]> {
     for (at, byte) in text.iter().enumerate() {
         if *byte == b'\r' || !is_space(*byte) {
-            return behind_line_end(text.get(at..).unwrap_or(&[]));
+            return after_line_end(text.get(at..).unwrap_or(&[]));
         }
     }
     None
@@ -43,10 +43,10 @@ fn ends_in_name(front: &[u8]) -> bool {
 
 /// Whether the line of the `\` at that place of a source goes on, and a name does so with it.
 fn cuts_name(source: &[u8], at: usize) -> bool {
-    let Some((front, [_, behind @ ..])) = source.split_at_checked(at) else {
+    let Some((front, [_, after @ ..])) = source.split_at_checked(at) else {
         return false;
     };
-    match next_line(behind) {
+    match next_line(after) {
         Some([first, ..]) => is_letter(*first) && ends_in_name(front),
         _ => false,
     }

@@ -1,6 +1,6 @@
 //! Words and sources by which a day or a time may come into a text though no source has its macro whole.
 
-use crate::directives::{behind_spaces, stands_alone, word_ahead};
+use crate::directives::{after_spaces, stands_alone, word_ahead};
 use base_files::OsBytes;
 use memchr::memmem;
 
@@ -21,8 +21,8 @@ fn is_piece(name: &[u8]) -> bool {
 }
 
 /// Whether a name before these bytes may be pasted: it is pasted there, is an argument, or is all that a macro stands for.
-pub(crate) fn may_be_pasted(behind: &[u8]) -> bool {
-    match behind_spaces(behind) {
+pub(crate) fn may_be_pasted(after: &[u8]) -> bool {
+    match after_spaces(after) {
         // By `##`, which other spellings have for `#`.
         [byte, ..] => matches!(
             *byte,
@@ -35,8 +35,8 @@ pub(crate) fn may_be_pasted(behind: &[u8]) -> bool {
 /// Whether a source contains a piece of such a macro that begins so.
 fn has_piece(source: &[u8], front: &[u8]) -> bool {
     for at in memmem::find_iter(source, front) {
-        let (name, behind) = word_ahead(source.get(at..).unwrap_or(&[]));
-        if stands_alone(source, at) && is_piece(name) && may_be_pasted(behind) {
+        let (name, after) = word_ahead(source.get(at..).unwrap_or(&[]));
+        if stands_alone(source, at) && is_piece(name) && may_be_pasted(after) {
             return true;
         }
     }
@@ -67,8 +67,8 @@ fn has_macro(text: &[u8]) -> bool {
 fn telling_part(word: &[u8]) -> &[u8] {
     let definition = word.strip_prefix(b"-D").unwrap_or(word);
     for it in MACROS {
-        let behind = definition.strip_prefix(*it);
-        if let Some(value) = behind.and_then(|behind| behind.strip_prefix(b"=")) {
+        let after = definition.strip_prefix(*it);
+        if let Some(value) = after.and_then(|after| after.strip_prefix(b"=")) {
             return value;
         }
     }

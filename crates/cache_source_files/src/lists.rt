@@ -12,7 +12,7 @@ pub fn digest_of_list(alloc: Global, list: &[u8]) -> Result<String, HostError> {
 }
 
 /// What comes after the targets of a list's first rule.
-fn behind_targets(list: &[u8]) -> &[u8] {
+fn after_targets(list: &[u8]) -> &[u8] {
     match memmem::find(list, b": ") {
         Some(at) => list.get(at.saturating_add(2)..).unwrap_or(&[]),
         None => &[],
@@ -21,15 +21,15 @@ fn behind_targets(list: &[u8]) -> &[u8] {
 
 /// The first rule of a list, without its targets: up to the first line that doesn't go on.
 fn first_rule(list: &[u8]) -> &[u8] {
-    let behind = behind_targets(list);
+    let after = after_targets(list);
     let mut before = b' ';
-    for (at, byte) in behind.iter().enumerate() {
+    for (at, byte) in after.iter().enumerate() {
         if *byte == b'\n' && before != b'\\' {
-            return behind.get(..at).unwrap_or(behind);
+            return after.get(..at).unwrap_or(after);
         }
         before = *byte;
     }
-    behind
+    after
 }
 
 /// Whether it is a name, or a part of one that has spaces in it, and no end of a line that goes on.

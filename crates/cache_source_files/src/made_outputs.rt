@@ -21,7 +21,7 @@ pub struct Locks {
     files: Vec<File>,
 }
 
-/// The path of a file behind all links of its folder.
+/// The path of a file with no link in its folder.
 fn real_path<R: Files + AllocGlobal>(
     rt: &R,
     line: &CommandLine,

@@ -3,7 +3,7 @@
 use base_files::{OsBytes, join};
 use cache_disk::folder_of;
 use cache_host::{CommandLine, HostError};
-use cache_known_options::{Placed, PlacedWords, behind_front, is_among};
+use cache_known_options::{Placed, PlacedWords, after_front, is_among};
 use cache_written_lines::NamedFiles;
 use memchr::memrchr;
 use std::alloc::Global;
@@ -47,7 +47,7 @@ fn folder_in(placed: Placed<'_>) -> Option<&[u8]> {
     match placed.option {
         Some(option) if is_among(&FOLDERS, option.as_bytes()) => Some(word),
         Some(_) => None,
-        None => match behind_front(&FOLDERS, word) {
+        None => match after_front(&FOLDERS, word) {
             Some((_, folder)) => Some(folder),
             None => None,
         },

@@ -27,7 +27,7 @@ const PARTS: [&str; 3] = ["__TIME", "__DATE__", "embed"];
 /// How many tokens are kept beside a manifest.
 const MOST: usize = 20_000;
 
-/// How far the times of files may lag behind the clock where they have no parts of a second.
+/// How far the times of files may be late against the clock where they have no parts of a second.
 const COARSE: i64 = 2;
 
 /// Whether the text is in these contents.
@@ -136,10 +136,10 @@ pub(crate) fn add_rows(
 ) -> Result<(), AllocError> {
     let mut rest = bytes;
     for _ in 0..MOST {
-        let Some(behind) = add_row(alloc, rest, tokens)? else {
+        let Some(after) = add_row(alloc, rest, tokens)? else {
             break;
         };
-        rest = behind;
+        rest = after;
     }
     Ok(())
 }

@@ -32,7 +32,7 @@ fn from(text: &[u8], at: usize) -> &[u8] {
 }
 
 /// The text after spaces and line ends.
-fn behind_blanks(text: &[u8]) -> &[u8] {
+fn after_blanks(text: &[u8]) -> &[u8] {
     match text.iter().position(|byte| !byte.is_ascii_whitespace()) {
         Some(at) => from(text, at),
         None => &[],
@@ -40,7 +40,7 @@ fn behind_blanks(text: &[u8]) -> &[u8] {
 }
 
 /// The text after the end of its first line.
-fn behind_line(text: &[u8]) -> &[u8] {
+fn after_line(text: &[u8]) -> &[u8] {
     match text.iter().position(|byte| *byte == b'\n') {
         Some(at) => from(text, at.saturating_add(1)),
         None => &[],
@@ -48,23 +48,23 @@ fn behind_line(text: &[u8]) -> &[u8] {
 }
 
 /// The text after spaces and line markers.
-fn behind_markers(text: &[u8]) -> &[u8] {
-    let mut rest = behind_blanks(text);
+fn after_markers(text: &[u8]) -> &[u8] {
+    let mut rest = after_blanks(text);
     for _ in text {
         if rest.first() != Some(&b'#') {
             return rest;
         }
-        rest = behind_blanks(behind_line(rest));
+        rest = after_blanks(after_line(rest));
     }
     rest
 }
 
 /// The inside of a string that begins there, after spaces and line markers.
 fn other_string(text: &[u8]) -> Option<&[u8]> {
-    let mut rest = behind_markers(text);
+    let mut rest = after_markers(text);
     for prefix in PREFIXES {
-        if let Some(behind) = rest.strip_prefix(prefix) {
-            rest = behind;
+        if let Some(after) = rest.strip_prefix(prefix) {
+            rest = after;
             break;
         }
     }
@@ -72,13 +72,13 @@ fn other_string(text: &[u8]) -> Option<&[u8]> {
 }
 
 /// The text, past the quotes between two adjacent strings.
-fn behind_seams(text: &[u8]) -> &[u8] {
+fn after_seams(text: &[u8]) -> &[u8] {
     let mut rest = text;
     for _ in text {
-        let Some(behind) = rest.strip_prefix(b"\"") else {
+        let Some(after) = rest.strip_prefix(b"\"") else {
             return rest;
         };
-        match other_string(behind) {
+        match other_string(after) {
             Some(inside) => rest = inside,
             None => return rest,
         }
@@ -126,7 +126,7 @@ fn escaped(text: &[u8]) -> Option<(u8, &[u8])> {
 
 /// The next byte that an assembler reads, and what comes after it.
 fn next_byte(text: &[u8]) -> Option<(u8, &[u8])> {
-    let (first, rest) = behind_seams(text).split_first()?;
+    let (first, rest) = after_seams(text).split_first()?;
     match *first {
         b'\\' => escaped(rest),
         byte => Some((byte, rest)),
@@ -134,14 +134,14 @@ fn next_byte(text: &[u8]) -> Option<(u8, &[u8])> {
 }
 
 /// What comes after these letters, in any case, where the text begins with them.
-fn behind_word<'a>(text: &'a [u8], word: &[u8]) -> Option<&'a [u8]> {
+fn after_word<'a>(text: &'a [u8], word: &[u8]) -> Option<&'a [u8]> {
     let mut rest = text;
     for letter in word {
-        let (byte, behind) = next_byte(rest)?;
+        let (byte, after) = next_byte(rest)?;
         if byte.to_ascii_lowercase() != *letter {
             return None;
         }
-        rest = behind;
+        rest = after;
     }
     Some(rest)
 }
@@ -156,14 +156,14 @@ fn takes_name(text: &[u8]) -> bool {
     let mut rest = text;
     let mut is_apart = false;
     for _ in text {
-        let Some((byte, behind)) = next_byte(rest) else {
+        let Some((byte, after)) = next_byte(rest) else {
             return true;
         };
         if !byte.is_ascii_whitespace() {
             return byte == b'"' || is_apart && begins_name(byte);
         }
         is_apart = true;
-        rest = behind;
+        rest = after;
     }
     true
 }
@@ -171,27 +171,27 @@ fn takes_name(text: &[u8]) -> bool {
 /// Whether a line or a statement ends after a directive without a name, as it does where a macro's argument is one.
 fn ends_argument(text: &[u8]) -> bool {
     let mut rest = text;
-    let mut is_behind = false;
+    let mut is_after = false;
     for _ in text {
-        let Some((byte, behind)) = next_byte(rest) else {
+        let Some((byte, after)) = next_byte(rest) else {
             return true;
         };
         if byte == b'\n' {
-            is_behind = true;
+            is_after = true;
         } else if !byte.is_ascii_whitespace() {
             // A member of C may have its `=` in the next line.
-            return match is_behind {
+            return match is_after {
                 true => !b"=([{".contains(&byte),
                 false => b",;#/@!>".contains(&byte),
             };
         }
-        rest = behind;
+        rest = after;
     }
     true
 }
 
 /// What comes after this byte, where it is near.
-fn behind_near(text: &[u8], wanted: u8) -> Option<&[u8]> {
+fn after_near(text: &[u8], wanted: u8) -> Option<&[u8]> {
     let mut rest = text;
     for byte in text.iter().take(NEAR) {
         rest = from(rest, 1);
@@ -206,8 +206,8 @@ fn behind_near(text: &[u8], wanted: u8) -> Option<&[u8]> {
 fn alternative(text: &[u8], dialect: usize) -> &[u8] {
     let mut rest = text;
     for _ in 0..dialect {
-        match behind_near(rest, b'|') {
-            Some(behind) => rest = behind,
+        match after_near(rest, b'|') {
+            Some(after) => rest = after,
             None => return &[],
         }
     }
@@ -215,16 +215,16 @@ fn alternative(text: &[u8], dialect: usize) -> &[u8] {
 }
 
 /// The text, past braces and the alternatives of other dialects.
-fn behind_choices(text: &[u8], dialect: usize) -> &[u8] {
+fn after_choices(text: &[u8], dialect: usize) -> &[u8] {
     let mut rest = text;
     for _ in text.iter().take(8) {
         rest = match next_byte(rest) {
-            Some((b'{', behind)) => alternative(behind, dialect),
-            Some((b'|', behind)) => match behind_near(behind, b'}') {
-                Some(behind) => behind,
+            Some((b'{', after)) => alternative(after, dialect),
+            Some((b'|', after)) => match after_near(after, b'}') {
+                Some(after) => after,
                 None => return rest,
             },
-            Some((b'}', behind)) => behind,
+            Some((b'}', after)) => after,
             _ => return rest,
         };
     }
@@ -232,14 +232,14 @@ fn behind_choices(text: &[u8], dialect: usize) -> &[u8] {
 }
 
 /// What comes after these letters where that dialect is chosen.
-fn behind_chosen<'a>(text: &'a [u8], word: &[u8], dialect: usize) -> Option<&'a [u8]> {
+fn after_chosen<'a>(text: &'a [u8], word: &[u8], dialect: usize) -> Option<&'a [u8]> {
     let mut rest = text;
     for letter in word {
-        let (byte, behind) = next_byte(behind_choices(rest, dialect))?;
+        let (byte, after) = next_byte(after_choices(rest, dialect))?;
         if byte.to_ascii_lowercase() != *letter {
             return None;
         }
-        rest = behind;
+        rest = after;
     }
     Some(rest)
 }
@@ -247,8 +247,8 @@ fn behind_chosen<'a>(text: &'a [u8], word: &[u8], dialect: usize) -> Option<&'a 
 /// Whether the alternatives that begin there are several ones: a value of C++ (`.include{1}`) has none.
 fn are_several(text: &[u8]) -> bool {
     match next_byte(text) {
-        Some((b'{', behind)) => {
-            for byte in behind.iter().take(NEAR) {
+        Some((b'{', after)) => {
+            for byte in after.iter().take(NEAR) {
                 if b"|}".contains(byte) {
                     return *byte == b'|';
                 }
@@ -263,9 +263,9 @@ fn are_several(text: &[u8]) -> bool {
 fn is_chosen(text: &[u8]) -> bool {
     for word in DIRECTIVES {
         for dialect in 0..DIALECTS {
-            match behind_chosen(text, word, dialect) {
+            match after_chosen(text, word, dialect) {
                 Some(rest) if are_several(rest) => {
-                    if takes_name(behind_choices(rest, dialect)) {
+                    if takes_name(after_choices(rest, dialect)) {
                         return true;
                     }
                 }
@@ -284,7 +284,7 @@ fn begins_argument(byte: u8) -> bool {
 /// Whether an argument of a macro comes there, as strings have it.
 fn is_argument(text: &[u8]) -> bool {
     match next_byte(text) {
-        Some((b'\\' | b'&', behind)) => match next_byte(behind) {
+        Some((b'\\' | b'&', after)) => match next_byte(after) {
             Some((byte, _)) => begins_argument(byte),
             None => false,
         },
@@ -304,12 +304,12 @@ fn is_own_argument(text: &[u8]) -> bool {
 fn has_argument(text: &[u8], word: &[u8], dialect: usize, is_own: bool) -> bool {
     let mut rest = text;
     for letter in word {
-        rest = behind_choices(rest, dialect);
+        rest = after_choices(rest, dialect);
         if is_own && is_own_argument(rest) || !is_own && is_argument(rest) {
             return true;
         }
         match next_byte(rest) {
-            Some((byte, behind)) if byte.to_ascii_lowercase() == *letter => rest = behind,
+            Some((byte, after)) if byte.to_ascii_lowercase() == *letter => rest = after,
             _ => return false,
         }
     }
@@ -396,10 +396,10 @@ fn may_be_front(text: &[u8]) -> bool {
 /// Whether the text begins with a dot, or its escape, and is made a directive from pieces.
 fn is_pieced(before: &[u8], text: &[u8]) -> bool {
     match next_byte(text) {
-        Some((b'.', behind)) if may_be_front(behind) => {
-            is_made(behind, false) && begins_within(before)
-                || is_made(behind, true) && begins_own(before)
-                || is_chosen(behind) && may_begin(before)
+        Some((b'.', after)) if may_be_front(after) => {
+            is_made(after, false) && begins_within(before)
+                || is_made(after, true) && begins_own(before)
+                || is_chosen(after) && may_begin(before)
         }
         _ => false,
     }
@@ -417,7 +417,7 @@ fn may_begin(before: &[u8]) -> bool {
 /// Whether the text begins with a dot, or its escape, followed by a directive and a file's name.
 fn is_directive(text: &[u8]) -> bool {
     match next_byte(text) {
-        Some((b'.', behind)) => DIRECTIVES.iter().any(|word| match behind_word(behind, word) {
+        Some((b'.', after)) => DIRECTIVES.iter().any(|word| match after_word(after, word) {
             Some(rest) => takes_name(rest) || ends_argument(rest),
             None => false,
         }),
@@ -432,8 +432,8 @@ pub fn takes_files(text: &[u8]) -> bool {
         return true;
     }
     for at in memchr2_iter(b'.', b'\\', text) {
-        if let Some((before, behind)) = text.split_at_checked(at) {
-            if is_directive(behind) && may_begin(before) || is_pieced(before, behind) {
+        if let Some((before, after)) = text.split_at_checked(at) {
+            if is_directive(after) && may_begin(before) || is_pieced(before, after) {
                 return true;
             }
         }

@@ -102,14 +102,14 @@ pub fn tells_time(text: &[u8], moment: i64, zone: &str) -> bool {
         None => true,
     };
     memchr_iter(b'"', text).any(|at| {
-        let Some((_, behind)) = text.split_at_checked(at.saturating_add(1)) else {
+        let Some((_, after)) = text.split_at_checked(at.saturating_add(1)) else {
             return false;
         };
-        let is_time = match (second_in(behind), begun) {
+        let is_time = match (second_in(after), begun) {
             (Some(second), Some(begun)) => is_of_call(second, begun),
             (Some(_), None) => true,
             (None, _) => false,
         };
-        is_time || is_late && is_date(behind)
+        is_time || is_late && is_date(after)
     })
 }

@@ -42,11 +42,11 @@ pub(crate) fn rows_of(alloc: Global, bytes: &[u8]) -> Result<Vec<WatchedResult<'
     let mut rest = bytes;
     // Each turn takes a byte at least.
     for _ in 0..bytes.len() {
-        let Some((row, behind)) = row_ahead(rest) else {
+        let Some((row, after)) = row_ahead(rest) else {
             break;
         };
         rows.push(row)?;
-        rest = behind;
+        rest = after;
     }
     Ok(rows)
 }

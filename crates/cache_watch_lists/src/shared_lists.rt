@@ -47,9 +47,9 @@ fn put_files(bytes: &[u8], out: &mut Vec<u8>) -> Result<(), Unwatched> {
     let (count, mut rest) = read_number(bytes)?;
     put_number(out, count)?;
     for _ in 0..count {
-        let (row, behind) = file_ahead(rest)?;
+        let (row, after) = file_ahead(rest)?;
         put_without_state(row, out)?;
-        rest = behind;
+        rest = after;
     }
     match rest.is_empty() {
         true => Ok(()),

@@ -228,11 +228,11 @@ fn names_hold<R: Files + AllocGlobal>(
         if rest.is_empty() {
             break;
         }
-        let (holds, behind) = name_holds(rt, folder, rest, &mut listing, listings)?;
+        let (holds, after) = name_holds(rt, folder, rest, &mut listing, listings)?;
         if !holds {
             return Ok(false);
         }
-        rest = behind;
+        rest = after;
     }
     Ok(true)
 }
@@ -345,12 +345,12 @@ fn folders_hold<'a, R: Files + AllocGlobal>(
     let (count, mut rest) = read_number(bytes)?;
     let mut looks = 0u64;
     for _ in 0..count {
-        let (found, behind) = folder_holds(rt, rest, &mut listings)?;
+        let (found, after) = folder_holds(rt, rest, &mut listings)?;
         let Some(more) = found else {
-            return Ok((None, behind));
+            return Ok((None, after));
         };
         looks = looks.saturating_add(more);
-        rest = behind;
+        rest = after;
     }
     Ok((Some(looks), rest))
 }
@@ -360,12 +360,12 @@ fn files_hold<R: Files + AllocGlobal>(rt: &R, bytes: &[u8]) -> Result<Option<u64
     let (count, mut rest) = read_number(bytes)?;
     let mut looks = 0u64;
     for _ in 0..count {
-        let (found, behind) = file_holds(rt, rest)?;
+        let (found, after) = file_holds(rt, rest)?;
         let Some(more) = found else {
             return Ok(None);
         };
         looks = looks.saturating_add(more);
-        rest = behind;
+        rest = after;
     }
     match rest.is_empty() {
         true => Ok(Some(looks)),

@@ -23,13 +23,13 @@ fn digits_ahead(text: &[u8]) -> &[u8] {
 
 /// The name of the marker that a line is, if it is one, with its number.
 fn marker_in(line: &[u8]) -> Option<(&[u8], usize)> {
-    let [b'#', behind @ ..] = line else {
+    let [b'#', after @ ..] = line else {
         return None;
     };
     let Some(Mark::Named(name)) = Markers::new(line).next() else {
         return None;
     };
-    let digits = behind.strip_prefix(b"line").unwrap_or(behind);
+    let digits = after.strip_prefix(b"line").unwrap_or(after);
     let digits = digits.strip_prefix(b" ").unwrap_or(digits);
     let digits = str::from_utf8(digits_ahead(digits)).ok()?;
     Some((name, digits.parse::<usize>().ok()?))

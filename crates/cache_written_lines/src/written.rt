@@ -16,8 +16,8 @@ fn spaces_ahead(text: &[u8]) -> usize {
 }
 
 /// The text without the spaces that it begins with.
-fn behind_spaces(text: &[u8]) -> &[u8] {
-    behind(text, spaces_ahead(text))
+fn after_spaces(text: &[u8]) -> &[u8] {
+    after(text, spaces_ahead(text))
 }
 
 /// Whether a line opens more brackets than it closes, those in strings and characters too.
@@ -68,7 +68,7 @@ fn may_be_label(line: &[u8]) -> bool {
 }
 
 /// The bytes after the first so many.
-fn behind(bytes: &[u8], count: usize) -> &[u8] {
+fn after(bytes: &[u8], count: usize) -> &[u8] {
     bytes.get(count..).unwrap_or(&[])
 }
 
@@ -89,7 +89,7 @@ fn alike_ahead(one: &[u8], other: &[u8]) -> usize {
 }
 
 /// How many bytes two lines end with alike.
-fn alike_behind(one: &[u8], other: &[u8]) -> usize {
+fn alike_after(one: &[u8], other: &[u8]) -> usize {
     let (mut front, mut other_front) = (one, other);
     for alike in 0..one.len() {
         match (front, other_front) {
@@ -163,14 +163,14 @@ impl Written {
     /// bytes it begins with and ends with as the text has it, and the rest.
     fn note_line(&mut self, line: &[u8], shown: &[u8], spaces: usize) -> Result<(), AllocError> {
         let own = spaces_ahead(line);
-        if behind(line, own) == behind(shown, spaces) {
+        if after(line, own) == after(shown, spaces) {
             self.begin(b'i')?;
             return self.put(up_to(line, own));
         }
         let ahead = alike_ahead(line, shown);
-        let rest = behind(line, ahead);
-        let shown_rest = behind(shown, ahead);
-        let alike = alike_behind(rest, shown_rest);
+        let rest = after(line, ahead);
+        let shown_rest = after(shown, ahead);
+        let alike = alike_after(rest, shown_rest);
         let middle = up_to(rest, rest.len().saturating_sub(alike));
         self.begin(b's')?;
         put_small(&mut self.bytes, ahead as u64)?;
@@ -228,7 +228,7 @@ impl<'s> Place<'s> {
         };
         let lines = file.lines(left, to);
         let is_more = match self.shown {
-            Some(shown) => { goes_on(shown) || matches!(behind_spaces(lines), [b'(', ..]) }
+            Some(shown) => { goes_on(shown) || matches!(after_spaces(lines), [b'(', ..]) }
             None => false,
         };
         if is_more {
@@ -282,7 +282,7 @@ impl<'s> Place<'s> {
             return Ok(());
         }
         if self.left < number {
-            self.pass(number, may_be_label(behind(line, spaces)), written)?;
+            self.pass(number, may_be_label(after(line, spaces)), written)?;
         }
         let as_written = file.line(number);
         if as_written != line {

@@ -139,8 +139,8 @@ kept-next width text i e lo hi none found = elim (cases_lt e (length text)) [
 pub parts-next : (width : ℕ → ℕ) (text : List ℕ) (next later : Option ℕ) (i e : ℕ) → next ≡ Some i → later ≡ start_after width (length text) e
     → i ≤ e → e ≤ length text → ((k : ℕ) → i ≤ k → k < e → width k ≡ 0) → (e < length text → 0 < width e)
     → parts_from width text next ≡ slice_range text i e ∷ parts_from width text later
-parts-next width text next later i e at behind lo hi none found =
-    ap (parts_from width text) at ∙ kept-next width text i e lo hi none found ∙ ap (λ (o : Option ℕ). slice_range text i e ∷ parts_from width text o) (sym behind)
+parts-next width text next later i e at after lo hi none found =
+    ap (parts_from width text) at ∙ kept-next width text i e lo hi none found ∙ ap (λ (o : Option ℕ). slice_range text i e ∷ parts_from width text o) (sym after)
 
 pub from_start : (width : ℕ → ℕ) (n : ℕ) → cuts width 0 0 (n - 0) ≡ cuts width 0 0 n
 from_start width n = let a : n - 0 ≡ n = omega arith in ap (cuts width 0 0) a

@@ -9,7 +9,7 @@ use Rattle.std.proofs.lemmas.List.{append-nil}
 use Rattle.std.proofs.lemmas.Str.{digit_value-digit_char}
 use Rattle.base_files.specs.Bytes.{Bytes}
 use Rattle.ckeys_base.specs.Escapes.{Spells, itself, by_letter, by_digits, IsReading, meaning}
-use Rattle.ckeys_base.specs.EscapeSteps.{first_spelled, behind_backslash, two_digits}
+use Rattle.ckeys_base.specs.EscapeSteps.{first_spelled, after_backslash, two_digits}
 
 chosen : {A : Type 0} (t : Bool) (x y z : A) → cond t x y ≡ z → ((t ≡ true) × (x ≡ z)) ⊎ ((t ≡ false) × (y ≡ z))
 chosen true x y z e = inl (refl, e)
@@ -33,7 +33,7 @@ spelled piece b rest (by_letter letter means is) = elim (cases_eq letter 120) [
   | inl x ↦ absurd (none_some b (sym (ap meaning x) ∙ means))
   | inr other ↦
       let no : eqb letter 120 ≡ false = ne_eqb letter 120 other in
-      let read : behind_backslash (letter ∷ rest) ≡ option_map {U = ℕ × Bytes} (λ c. (c, rest)) (meaning letter) = rw no refl in
+      let read : after_backslash (letter ∷ rest) ≡ option_map {U = ℕ × Bytes} (λ c. (c, rest)) (meaning letter) = rw no refl in
       ap (λ (p : Bytes). first_spelled (p ++ rest)) is ∙ read ∙ ap (λ (m : Option ℕ). option_map {U = ℕ × Bytes} (λ c. (c, rest)) m) means
 ]
 spelled piece b rest (by_digits high low h l value is) =
@@ -56,9 +56,9 @@ digits_sound (high ∷ low ∷ more) b rest e = elim (chosen (is_digit high 16 &
   | inr passed ↦ absurd (none_some (b, rest) passed.1)
 ]
 
-behind_sound : (behind : Bytes) (b : ℕ) (rest : Bytes) → behind_backslash behind ≡ Some (b, rest) → (piece : Bytes) × (92 ∷ behind ≡ piece ++ rest) × Spells piece b
-behind_sound [] b rest e = absurd (none_some (b, rest) e)
-behind_sound (letter ∷ more) b rest e = elim (chosen (eqb letter 120) (two_digits more) (option_map {U = ℕ × Bytes} (λ c. (c, more)) (meaning letter)) (Some (b, rest)) e) [
+after_sound : (after : Bytes) (b : ℕ) (rest : Bytes) → after_backslash after ≡ Some (b, rest) → (piece : Bytes) × (92 ∷ after ≡ piece ++ rest) × Spells piece b
+after_sound [] b rest e = absurd (none_some (b, rest) e)
+after_sound (letter ∷ more) b rest e = elim (chosen (eqb letter 120) (two_digits more) (option_map {U = ℕ × Bytes} (λ c. (c, more)) (meaning letter)) (Some (b, rest)) e) [
   | inl taken ↦
       let found = digits_sound more b rest taken.1 in
       (found.0, ap (λ (x : ℕ). 92 ∷ x ∷ more) (eqb-true letter 120 taken.0) ∙ found.1, found.2)
@@ -70,14 +70,14 @@ behind_sound (letter ∷ more) b rest e = elim (chosen (eqb letter 120) (two_dig
 -- what is read first is such a piece
 pub first-sound : (text : Bytes) (b : ℕ) (rest : Bytes) → first_spelled text ≡ Some (b, rest) → (piece : Bytes) × (text ≡ piece ++ rest) × Spells piece b
 first-sound [] b rest e = absurd (none_some (b, rest) e)
-first-sound (first ∷ behind) b rest e = elim (cases_eq first 92) [
+first-sound (first ∷ after) b rest e = elim (cases_eq first 92) [
   | inl is ↦
-      let found = behind_sound behind b rest (sym (ap (λ (x : ℕ). first_spelled (x ∷ behind)) is) ∙ e) in
-      (found.0, ap (λ (x : ℕ). x ∷ behind) is ∙ found.1, found.2)
+      let found = after_sound after b rest (sym (ap (λ (x : ℕ). first_spelled (x ∷ after)) is) ∙ e) in
+      (found.0, ap (λ (x : ℕ). x ∷ after) is ∙ found.1, found.2)
   | inr other ↦
       let no : eqb first 92 ≡ false = ne_eqb first 92 other in
-      let read : first_spelled (first ∷ behind) ≡ Some (first, behind) = rw no refl in
-      let p = pair_of first b behind rest (sym read ∙ e) in
+      let read : first_spelled (first ∷ after) ≡ Some (first, after) = rw no refl in
+      let p = pair_of first b after rest (sym read ∙ e) in
       (first ∷ [], ap (λ (x : Bytes). first ∷ x) p.1, itself (λ is. other (p.0 ∙ is)) (ap (λ (x : ℕ). x ∷ []) p.0))
 ]
 

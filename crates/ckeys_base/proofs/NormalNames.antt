@@ -5,9 +5,9 @@ use Rattle.std.proofs.lemmas.List.{append-nil}
 use Rattle.base_files.specs.Bytes.{Bytes}
 
 -- each name after a slash
-abbrev pub behind_slashes : List Bytes → Bytes
-behind_slashes names = flat_map (λ name. 47 ∷ name) names
+abbrev pub after_slashes : List Bytes → Bytes
+after_slashes names = flat_map (λ name. 47 ∷ name) names
 
-pub join-first : (first : Bytes) (later : List Bytes) → first ++ behind_slashes later ≡ join_with_byte 47 (first ∷ later)
+pub join-first : (first : Bytes) (later : List Bytes) → first ++ after_slashes later ≡ join_with_byte 47 (first ∷ later)
 join-first first [] = append-nil first
 join-first first (name ∷ later) = ap (λ (x : Bytes). first ++ 47 ∷ x) (join-first name later)

@@ -14,11 +14,11 @@ two_digits (high ∷ []) = None
 two_digits (high ∷ low ∷ rest) = if is_digit high 16 && is_digit low 16 then Some (digit_value high * 16 + digit_value low, rest) else None
 
 -- the byte that an escape spells after its backslash, and the text after that
-abbrev pub behind_backslash : Bytes → Option (ℕ × Bytes)
-behind_backslash [] = None
-behind_backslash (letter ∷ rest) = if letter == byte "x" then two_digits rest else option_map (λ b. (b, rest)) (meaning letter)
+abbrev pub after_backslash : Bytes → Option (ℕ × Bytes)
+after_backslash [] = None
+after_backslash (letter ∷ rest) = if letter == byte "x" then two_digits rest else option_map (λ b. (b, rest)) (meaning letter)
 
 -- the byte that a text spells first, and the text after that
 abbrev pub first_spelled : Bytes → Option (ℕ × Bytes)
 first_spelled [] = None
-first_spelled (b ∷ rest) = if b == backslash then behind_backslash rest else Some (b, rest)
+first_spelled (b ∷ rest) = if b == backslash then after_backslash rest else Some (b, rest)

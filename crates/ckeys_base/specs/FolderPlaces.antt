@@ -26,13 +26,13 @@ text_places = record {
 }
 
 -- byte 2 of a word that begins with a hyphen and another byte than a hyphen: there the value of a short option may begin
-abbrev pub is_behind_letter : Bytes → ℕ → Bool
-is_behind_letter word i = i == 2 && slice_index word 0 == byte "-" && not (slice_index word 1 == byte "-")
+abbrev pub is_after_letter : Bytes → ℕ → Bool
+is_after_letter word i = i == 2 && slice_index word 0 == byte "-" && not (slice_index word 1 == byte "-")
 
 -- those of an argument: none in a definition of a macro
 abbrev pub argument_places : Places
 argument_places = record {
-  may_begin = λ word i. not (starts_with nat_eq word (codes "-D")) && (i == 0 || slice_index word (i - 1) == byte "=" || is_behind_letter word i);
+  may_begin = λ word i. not (starts_with nat_eq word (codes "-D")) && (i == 0 || slice_index word (i - 1) == byte "=" || is_after_letter word i);
   may_end = λ word i. i == length word || slice_index word i == byte "/" || slice_index word i == byte "=";
 }
 

@@ -138,13 +138,13 @@ fn join_kept(
 {
     let mut kept = Vec::with_capacity(alloc, text.len())?;
     kept.extend_from_slice(&text[..first])?;
-    let behind = KeptSlices {
+    let after = KeptSlices {
         kind,
         folders,
         text,
         next: next_start(kind, folders, text, first),
     };
-    for slice in behind {
+    for slice in after {
         kept.extend_from_slice(slice)?;
     }
     Ok(kept)

@@ -64,11 +64,11 @@ fn read_escapes(alloc: Global, text: &[u8]) -> Result<Option<Vec<u8>>, AllocErro
     let mut plain = Vec::with_capacity(alloc, text.len())?;
     let mut rest = text;
     while !rest.is_empty() {
-        let Some((byte, behind)) = next_byte(rest) else {
+        let Some((byte, after)) = next_byte(rest) else {
             return Ok(None);
         };
         plain.push(byte)?;
-        rest = behind;
+        rest = after;
     }
     Ok(Some(plain))
 }
@@ -78,15 +78,15 @@ fn next_byte(text: &[u8]) -> Option<(u8, &[u8])>
     ensures value { option_map (λ next. (next.0, next.1.now)) result ≡ first_spelled text.now }
     ensures shorter { IfSome result (λ next. length next.1.now < length text.now) }
 {
-    let (first, behind) = text.split_first()?;
+    let (first, after) = text.split_first()?;
     if *first != b'\\' {
-        return Some((*first, behind));
+        return Some((*first, after));
     }
-    let (letter, behind) = behind.split_first()?;
+    let (letter, after) = after.split_first()?;
     if *letter == b'x' {
-        return next_digits(behind);
+        return next_digits(after);
     }
-    Some((letter_meaning(*letter)?, behind))
+    Some((letter_meaning(*letter)?, after))
 }
 
 /// The byte of the two hexadecimal digits that the text begins with, and the text after them.
@@ -94,9 +94,9 @@ fn next_digits(text: &[u8]) -> Option<(u8, &[u8])>
     ensures value { option_map (λ next. (next.0, next.1.now)) result ≡ two_digits text.now }
     ensures shorter { IfSome result (λ next. length next.1.now < length text.now) }
 {
-    let (high, behind) = text.split_first()?;
-    let (low, behind) = behind.split_first()?;
-    Some((hex_value(*high)? * 16 + hex_value(*low)?, behind))
+    let (high, after) = text.split_first()?;
+    let (low, after) = after.split_first()?;
+    Some((hex_value(*high)? * 16 + hex_value(*low)?, after))
 }
 
 /// The value of a hexadecimal digit.

@@ -22,8 +22,8 @@ use Rattle.ckeys_include_records.proofs.KeyOrder.{rises-first, rises-rest}
 use Rattle.ckeys_include_records.proofs.Looking.{find_none, find_some, first_or_later}
 
 -- a key before another isn't after it, and none is before itself
-not_behind : (x y : Bytes) → is_before x y ≡ true → is_before y x ≡ false
-not_behind x y h = by (slice_cmp nat_cmp x y) refl
+not_after : (x y : Bytes) → is_before x y ≡ true → is_before y x ≡ false
+not_after x y h = by (slice_cmp nat_cmp x y) refl
   where
     by : (o : Ordering) → slice_cmp nat_cmp x y ≡ o → is_before y x ≡ false
     by Less e = ap is_lt (nat_list_cmp_total.antisymm y x ∙ ap ordering_reverse e)
@@ -79,7 +79,7 @@ module _ (digest_of : Bytes → Bytes) (place : Place) where
             | inl first ↦
                 let found = find_some There (reverse results) k is in
                 let among : Contains results k = Contains-permutation (reverse results) results k (subst (IsPermutation (reverse results)) (reverse-reverse results) (IsPermutation-reverse (reverse results))) found.0 in
-                not_behind q.key o.key (ap (λ (t : CachedResult). is_before t.key o.key) (sym first) ∙ ap (λ (t : CachedResult). is_before r.key t.key) (sym same) ∙ rises-all r results up k among)
+                not_after q.key o.key (ap (λ (t : CachedResult). is_before t.key o.key) (sym first) ∙ ap (λ (t : CachedResult). is_before r.key t.key) (sym same) ∙ rises-all r results up k among)
             | inr later ↦ deeper (is ∙ ap (λ (t : CachedResult). Some t) same) later
           ]
       by deeper None is =

@@ -8,7 +8,7 @@ use Rattle.std.proofs.lemmas.List.Sums.{get_or-le-sum_by, sum_by-cons, sum_by-in
 use Rattle.ckeys_include_records.specs.Records.{includes_in, is_before, is_record}
 use Rattle.ckeys_include_records.specs.Results.{HasMore, place_for, put_in, starts_over, with_result}
 use Rattle.ckeys_include_records.specs.declared.entry.CachedResult.{CachedResult}
-use Rattle.ckeys_include_records.proofs.KeyOrder.{put_in-before, put_in-same, put_in-behind, rises-put_in}
+use Rattle.ckeys_include_records.proofs.KeyOrder.{put_in-before, put_in-same, put_in-after, rises-put_in}
 use Rattle.ckeys_include_records.proofs.SmallRecords.{is_small-many}
 
 -- its place holds the key, and so it's replaced
@@ -45,7 +45,7 @@ put_in-insert r (q ∷ results) absent = by (λ no. put_in-insert r results no) 
     by rest false e =
         let at : place_for (q ∷ results) r.key ≡ 0 = rw e refl in
         let here : bytes_eq q.key r.key ≡ false = rw at at (absent q (omega (arith, at))) in
-        put_in-behind r q results e here ∙ ap (λ (n : ℕ). insert (q ∷ results) n r) (sym at)
+        put_in-after r q results e here ∙ ap (λ (n : ℕ). insert (q ∷ results) n r) (sym at)
 
 -- what is counted and how many there are
 includes_in-cons : (q : CachedResult) (results : List CachedResult) → includes_in (q ∷ results) ≡ length q.includes + includes_in results
@@ -61,7 +61,7 @@ put_in-le r (q ∷ results) = by (put_in-le r results) (is_before q.key r.key) r
   where
     by_same : is_before q.key r.key ≡ false → (b : Bool) → bytes_eq q.key r.key ≡ b → IsOneMore r (q ∷ results) (put_in r (q ∷ results))
     by_same e true s = rw (put_in-same r q results e s) (omega arith, omega (arith, includes_in-cons r results, includes_in-cons q results))
-    by_same e false s = rw (put_in-behind r q results e s) (omega arith, omega (arith, includes_in-cons r (q ∷ results), includes_in-cons q results))
+    by_same e false s = rw (put_in-after r q results e s) (omega arith, omega (arith, includes_in-cons r (q ∷ results), includes_in-cons q results))
 
     by : IsOneMore r results (put_in r results) → (b : Bool) → is_before q.key r.key ≡ b → IsOneMore r (q ∷ results) (put_in r (q ∷ results))
     by rest true e = rw (put_in-before r q results e) (omega (arith, rest.0), omega (arith, rest.1, includes_in-cons q results, includes_in-cons q (put_in r results)))
@@ -100,8 +100,8 @@ followed r old results was = record {
 }
 
 -- what comes before both stays
-behind : (p r : CachedResult) (old new : List CachedResult) → HasMore old r new → HasMore (p ∷ old) r (p ∷ new)
-behind p r old new more = record {
+after : (p r : CachedResult) (old new : List CachedResult) → HasMore old r new → HasMore (p ∷ old) r (p ∷ new)
+after p r old new more = record {
   others = λ q c. elim (first_or_later p q new c) [
     | inl same ↦ inl (subst (Contains (p ∷ old)) same (here p old))
     | inr rest ↦ elim (more.others q rest) [ inl was ↦ inl (later p q old was) | inr is ↦ inr is ]
@@ -117,10 +117,10 @@ put_in-more r (q ∷ results) = by (put_in-more r results) (is_before q.key r.ke
   where
     by_same : is_before q.key r.key ≡ false → (b : Bool) → bytes_eq q.key r.key ≡ b → HasMore (q ∷ results) r (put_in r (q ∷ results))
     by_same e true s = rw (put_in-same r q results e s) (followed r (q ∷ results) results (λ p c. later q p results c))
-    by_same e false s = rw (put_in-behind r q results e s) (followed r (q ∷ results) (q ∷ results) (λ p c. c))
+    by_same e false s = rw (put_in-after r q results e s) (followed r (q ∷ results) (q ∷ results) (λ p c. c))
 
     by : HasMore results r (put_in r results) → (b : Bool) → is_before q.key r.key ≡ b → HasMore (q ∷ results) r (put_in r (q ∷ results))
-    by rest true e = rw (put_in-before r q results e) (behind q r results (put_in r results) rest)
+    by rest true e = rw (put_in-before r q results e) (after q r results (put_in r results) rest)
     by rest false e = by_same e (bytes_eq q.key r.key) refl
 
 pub with_result-over : (r : CachedResult) (results : List CachedResult) → starts_over results r.includes ≡ true → with_result results r ≡ r ∷ []

@@ -46,9 +46,9 @@ pub put_in-same : (r q : CachedResult) (results : List CachedResult) → is_befo
 unfolding put_in
 put_in-same r q results before same = rw (before, same) refl
 
-pub put_in-behind : (r q : CachedResult) (results : List CachedResult) → is_before q.key r.key ≡ false → bytes_eq q.key r.key ≡ false → put_in r (q ∷ results) ≡ r ∷ q ∷ results
+pub put_in-after : (r q : CachedResult) (results : List CachedResult) → is_before q.key r.key ≡ false → bytes_eq q.key r.key ≡ false → put_in r (q ∷ results) ≡ r ∷ q ∷ results
 unfolding put_in
-put_in-behind r q results before same = rw (before, same) refl
+put_in-after r q results before same = rw (before, same) refl
 
 -- the first result of a list whose first key is after q's may be followed by another
 rises-two : (q r : CachedResult) (results : List CachedResult) → is_before q.key r.key ≡ true → rises (r ∷ results) ≡ true → rises (q ∷ r ∷ results) ≡ true
@@ -59,14 +59,14 @@ pub rises-first : (q r : CachedResult) (results : List CachedResult) → rises (
 unfolding rises
 rises-first q r results h = and_parts _ _ h
 
-rises-behind : (q r : CachedResult) (results : List CachedResult) → is_before q.key r.key ≡ true → rises (q ∷ results) ≡ true → rises (q ∷ put_in r results) ≡ true
+rises-after : (q r : CachedResult) (results : List CachedResult) → is_before q.key r.key ≡ true → rises (q ∷ results) ≡ true → rises (q ∷ put_in r results) ≡ true
 unfolding put_in rises
-rises-behind q r [] before h = rises-two q r [] before refl
-rises-behind q r (p ∷ results) before h = by (is_before p.key r.key) refl (rises-first q p results h) (λ e rest. rises-behind p r results e rest)
+rises-after q r [] before h = rises-two q r [] before refl
+rises-after q r (p ∷ results) before h = by (is_before p.key r.key) refl (rises-first q p results h) (λ e rest. rises-after p r results e rest)
   where
     by_same : is_before p.key r.key ≡ false → rises (p ∷ results) ≡ true → (b : Bool) → bytes_eq p.key r.key ≡ b → rises (q ∷ put_in r (p ∷ results)) ≡ true
     by_same e rest true s = ap (λ (l : List CachedResult). rises (q ∷ l)) (put_in-same r p results e s) ∙ rises-two q r results before (rises-same r p results (same_bytes p.key r.key s) rest)
-    by_same e rest false s = ap (λ (l : List CachedResult). rises (q ∷ l)) (put_in-behind r p results e s) ∙ rises-two q r (p ∷ results) before (rises-two r p results (other_way p.key r.key e s) rest)
+    by_same e rest false s = ap (λ (l : List CachedResult). rises (q ∷ l)) (put_in-after r p results e s) ∙ rises-two q r (p ∷ results) before (rises-two r p results (other_way p.key r.key e s) rest)
 
     by : (b : Bool) → is_before p.key r.key ≡ b → (is_before q.key p.key ≡ true) × (rises (p ∷ results) ≡ true) → (is_before p.key r.key ≡ true → rises (p ∷ results) ≡ true → rises (p ∷ put_in r results) ≡ true) → rises (q ∷ put_in r (p ∷ results)) ≡ true
     by true e parts deeper = ap (λ (l : List CachedResult). rises (q ∷ l)) (put_in-before r p results e) ∙ rises-two q p (put_in r results) parts.0 (deeper e parts.1)
@@ -80,10 +80,10 @@ rises-put_in r (q ∷ results) h = by (is_before q.key r.key) refl
   where
     by_same : is_before q.key r.key ≡ false → (b : Bool) → bytes_eq q.key r.key ≡ b → rises (put_in r (q ∷ results)) ≡ true
     by_same e true s = ap rises (put_in-same r q results e s) ∙ rises-same r q results (same_bytes q.key r.key s) h
-    by_same e false s = ap rises (put_in-behind r q results e s) ∙ rises-two r q results (other_way q.key r.key e s) h
+    by_same e false s = ap rises (put_in-after r q results e s) ∙ rises-two r q results (other_way q.key r.key e s) h
 
     by : (b : Bool) → is_before q.key r.key ≡ b → rises (put_in r (q ∷ results)) ≡ true
-    by true e = ap rises (put_in-before r q results e) ∙ rises-behind q r results e h
+    by true e = ap rises (put_in-before r q results e) ∙ rises-after q r results e h
     by false e = by_same e (bytes_eq q.key r.key) refl
 
 -- fewer than two results

@@ -65,12 +65,12 @@ abbrev pub Reads : Bytes → Result Record Error → Type 0
 Reads rest r = MatchResult r (λ entry. results_at rest ≡ Some entry.results) (λ e. IsUnread rest e)
 
 -- what a record is spelled as after the first byte
-behind_one : (bytes rest : Bytes) (results : List CachedResult) → bytes ≡ 1 ∷ rest → bytes ≡ record_bytes results → rest ≡ counted result_bytes results
-behind_one bytes rest results is spelled = let same : 1 ∷ rest ≡ 1 ∷ counted result_bytes results = sym is ∙ spelled in cc
+after_one : (bytes rest : Bytes) (results : List CachedResult) → bytes ≡ 1 ∷ rest → bytes ≡ record_bytes results → rest ≡ counted result_bytes results
+after_one bytes rest results is spelled = let same : 1 ∷ rest ≡ 1 ∷ counted result_bytes results = sym is ∙ spelled in cc
 
 unread_is_none : (bytes rest : Bytes) → bytes ≡ 1 ∷ rest → results_at rest ≡ None → (results : List CachedResult) → IsRecord results → bytes ≢ record_bytes results
 unread_is_none bytes rest is none results fits spelled =
-    let clash = sym none ∙ (ap results_at (behind_one bytes rest results is spelled) ∙ results_again results fits) in
+    let clash = sym none ∙ (ap results_at (after_one bytes rest results is spelled) ∙ results_again results fits) in
     absurd cc
 
 -- where there are bytes, those of a record are its own
@@ -94,17 +94,17 @@ read_other bytes rest b is other = record {
   only = λ results h. let same : b ∷ rest ≡ record_bytes results = sym is ∙ written_as bytes rest b results is h in absurd (other cc);
 }
 
-pub read_behind : (bytes rest : Bytes) (r : Result Record Error) → bytes ≡ 1 ∷ rest → IsBytes rest → Reads rest r → OnRead r (IsOnly (IsWrittenAs bytes))
-read_behind bytes rest (Ok entry) is fits gave =
+pub read_after : (bytes rest : Bytes) (r : Result Record Error) → bytes ≡ 1 ∷ rest → IsBytes rest → Reads rest r → OnRead r (IsOnly (IsWrittenAs bytes))
+read_after bytes rest (Ok entry) is fits gave =
     let t = results_take rest entry.results fits gave in
     record {
       found = (t.0, inl (is ∙ ap (λ (x : Bytes). 1 ∷ x) t.1));
-      only = λ results h. sym gave ∙ (ap results_at (behind_one bytes rest results is (written_as bytes rest 1 results is h)) ∙ results_again results h.0);
+      only = λ results h. sym gave ∙ (ap results_at (after_one bytes rest results is (written_as bytes rest 1 results is h)) ∙ results_again results h.0);
     }
-read_behind bytes rest (Err Memory) is fits gave = tt
-read_behind bytes rest (Err Io) is fits gave = absurd gave
-read_behind bytes rest (Err (UnknownFormat b)) is fits gave = absurd gave
-read_behind bytes rest (Err Deserialization) is fits gave = record {
+read_after bytes rest (Err Memory) is fits gave = tt
+read_after bytes rest (Err Io) is fits gave = absurd gave
+read_after bytes rest (Err (UnknownFormat b)) is fits gave = absurd gave
+read_after bytes rest (Err Deserialization) is fits gave = record {
   found = tt;
   only = λ results h. absurd (unread_is_none bytes rest is gave results h.0 (written_as bytes rest 1 results is h));
 }
@@ -115,9 +115,9 @@ refused_with bytes rest Io is why = why
 refused_with bytes rest (UnknownFormat b) is why = absurd why
 refused_with bytes rest Deserialization is why = ((rest, is), unread_is_none bytes rest is why)
 
-pub refused_behind : (bytes rest : Bytes) (r : Result Record Error) → bytes ≡ 1 ∷ rest → Reads rest r → IfErr r (λ e. IsNoRecord bytes e)
-refused_behind bytes rest (Ok entry) is gave = tt
-refused_behind bytes rest (Err e) is gave = refused_with bytes rest e is gave
+pub refused_after : (bytes rest : Bytes) (r : Result Record Error) → bytes ≡ 1 ∷ rest → Reads rest r → IfErr r (λ e. IsNoRecord bytes e)
+refused_after bytes rest (Ok entry) is gave = tt
+refused_after bytes rest (Err e) is gave = refused_with bytes rest e is gave
 
 pub rest_is_bytes : (bytes : Bytes) (b : ℕ) (rest : Bytes) → bytes ≡ b ∷ rest → IsBytes bytes → IsBytes rest
 rest_is_bytes bytes b rest is fits i = let h = fits (suc i) in subst (λ (x : Bytes). get_or x (suc i) 0 < 256) is h

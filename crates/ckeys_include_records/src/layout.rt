@@ -96,7 +96,7 @@ fn read_results(alloc: Global, bytes: &[u8]) -> Result<PreprocessorCacheEntry, R
 }
 
 // What comes after the first byte, with the errors of records.
-fn read_behind_format(alloc: Global, bytes: &[u8]) -> Result<PreprocessorCacheEntry, Error>
+fn read_after_format(alloc: Global, bytes: &[u8]) -> Result<PreprocessorCacheEntry, Error>
     ensures { MatchResult result (λ entry. results_at bytes.now ≡ Some entry.results)
         (λ e. IsUnread bytes.now e) }
 {
@@ -122,7 +122,7 @@ impl PreprocessorCacheEntry {
         if *first != FORMAT {
             return Err(Error::UnknownFormat(*first));
         }
-        read_behind_format(alloc, rest)
+        read_after_format(alloc, rest)
     }
 
     /// The bytes of this record.

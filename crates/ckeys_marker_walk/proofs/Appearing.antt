@@ -78,18 +78,18 @@ module _ (one other : Bytes) where
   First [] = ⊥
   First (y ∷ ys) = (y ≡ one) ⊎ ((y ≡ other → ⊥) × First ys)
 
-  earlier_at : (names front behind : List Bytes) → names ≡ front ++ one ∷ behind → Contains behind other → Earlier names
-  earlier_at [] [] behind h w = let e : [] ≡ one ∷ behind = h in cc
-  earlier_at [] (f ∷ front) behind h w = let e : [] ≡ f ∷ (front ++ one ∷ behind) = h in cc
-  earlier_at (y ∷ ys) [] behind h w =
-      let e : y ∷ ys ≡ one ∷ behind = h in
+  earlier_at : (names front after : List Bytes) → names ≡ front ++ one ∷ after → Contains after other → Earlier names
+  earlier_at [] [] after h w = let e : [] ≡ one ∷ after = h in cc
+  earlier_at [] (f ∷ front) after h w = let e : [] ≡ f ∷ (front ++ one ∷ after) = h in cc
+  earlier_at (y ∷ ys) [] after h w =
+      let e : y ∷ ys ≡ one ∷ after = h in
       let first : y ≡ one = cc in
-      let rest : behind ≡ ys = cc in
+      let rest : after ≡ ys = cc in
       inl (first, subst (λ (l : List Bytes). Contains l other) rest w)
-  earlier_at (y ∷ ys) (f ∷ front) behind h w =
-      let e : y ∷ ys ≡ f ∷ (front ++ one ∷ behind) = h in
-      let rest : ys ≡ front ++ one ∷ behind = cc in
-      inr (earlier_at ys front behind rest w)
+  earlier_at (y ∷ ys) (f ∷ front) after h w =
+      let e : y ∷ ys ≡ f ∷ (front ++ one ∷ after) = h in
+      let rest : ys ≡ front ++ one ∷ after = cc in
+      inr (earlier_at ys front after rest w)
 
   other_stands : (names : List Bytes) → Earlier names → Contains names other
   other_stands [] h = absurd h
@@ -123,16 +123,16 @@ module _ (one other : Bytes) where
   record Appears (ls : List Bytes) : Type 0 where
     front : List Bytes
     line : Bytes
-    behind : List Bytes
-    whole : ls ≡ front ++ line ∷ behind
+    after : List Bytes
+    whole : ls ≡ front ++ line ∷ after
     is : IsMarker line one
     none : (earlier : Bytes) → Contains front earlier → ¬ IsMarker earlier other
 
-  behind_line : (l : Bytes) (ls : List Bytes) → ¬ IsMarker l other → Appears ls → Appears (l ∷ ls)
-  behind_line l ls isnt_other a = record {
+  after_line : (l : Bytes) (ls : List Bytes) → ¬ IsMarker l other → Appears ls → Appears (l ∷ ls)
+  after_line l ls isnt_other a = record {
     front = l ∷ a.front;
     line = a.line;
-    behind = a.behind;
+    after = a.after;
     whole = ap (λ (k : List Bytes). l ∷ k) a.whole;
     is = a.is;
     none = λ earlier w. by earlier (here_or_later l earlier a.front w);
@@ -144,18 +144,18 @@ module _ (one other : Bytes) where
 
   appears_in : (l : Bytes) (ls : List Bytes) (found : Option Sight) → sight_in l ≡ found → (First (names_in ls) → Appears ls)
       → First (filter_map name_of (cons_option found (filter_map sight_in ls))) → Appears (l ∷ ls)
-  appears_in l ls None e more h = behind_line l ls (λ m. let k = marker_reads l other m in cc) (more h)
-  appears_in l ls (Some refused) e more h = behind_line l ls (λ m. let k = marker_reads l other m in cc) (more h)
+  appears_in l ls None e more h = after_line l ls (λ m. let k = marker_reads l other m in cc) (more h)
+  appears_in l ls (Some refused) e more h = after_line l ls (λ m. let k = marker_reads l other m in cc) (more h)
   appears_in l ls (Some (named raw)) e more (inl same) = record {
     front = [];
     line = l;
-    behind = ls;
+    after = ls;
     whole = refl;
     is = subst (IsMarker l) same (reads_marker l raw e);
     none = λ earlier w m. absurd (omega (arith, w.1));
   }
   appears_in l ls (Some (named raw)) e more (inr h) =
-      behind_line l ls (λ m. h.0 (one_name l (meant raw) other (reads_marker l raw e) m)) (more h.1)
+      after_line l ls (λ m. h.0 (one_name l (meant raw) other (reads_marker l raw e) m)) (more h.1)
 
   -- the one name comes first in lines
   appears : (ls : List Bytes) → First (names_in ls) → Appears ls
@@ -165,7 +165,7 @@ module _ (one other : Bytes) where
   pub appears_before : (text : Bytes) → First (names_in (lines text)) → AppearsBefore text one other
   appears_before text h =
       let a = appears (lines text) h in
-      record { front = a.front; line = a.line; behind = a.behind; whole = a.whole; is = a.is; none = a.none }
+      record { front = a.front; line = a.line; after = a.after; whole = a.whole; is = a.is; none = a.none }
 
 module _ (dir : Bytes) (files : Tree) (input text : Bytes) where
   -- what is made of the names of the markers
@@ -204,7 +204,7 @@ module _ (dir : Bytes) (files : Tree) (input text : Bytes) where
 
     pub in_order : (one other : Bytes) → StandsBefore counted one other → AppearsBefore text one other
     in_order one other s =
-        let stands = earlier_at one other counted s.front s.behind s.whole s.stands in
+        let stands = earlier_at one other counted s.front s.after s.whole s.stands in
         let all = earlier_of one other (is_named dir files input) names stands in
         appears_before one other text (first_of one other (names_in (lines text)) (subst (Earlier one other) (sym (are_once text names is)) all))
 

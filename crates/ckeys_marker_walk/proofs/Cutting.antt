@@ -6,7 +6,7 @@ use Rattle.std.proofs.lemmas.List.Splits.{slice_split_first, slice_split_none}
 use Rattle.std.proofs.lemmas.List.Sums.{fails_before_first, position_or_len_is, prefix_len-le-length}
 use Rattle.std.specs.List.{cons_option, position_or_len, slice_split, filter_map}
 use Rattle.memchr.specs.Find.{IsFirstByte, is_byte}
-use Rattle.ckeys_marker_walk.specs.Lines.{is_line_end, line_of, behind_line}
+use Rattle.ckeys_marker_walk.specs.Lines.{is_line_end, line_of, after_line}
 use Rattle.ckeys_marker_walk.specs.Scanning.{sight_in, sights}
 
 untrue : (b : Bool) → (b ≡ true → ⊥) → b ≡ false
@@ -25,12 +25,12 @@ one_line : (text : List ℕ) → position_or_len is_line_end text ≡ length tex
 one_line text none = slice_split_none is_line_end text (λ k d lt. fails_before_first is_line_end text k d (omega (arith, none)))
 
 -- what a text says is what its first line says and then what the text after it says
-pub sights-cut : (text : List ℕ) → sights text ≡ cons_option (sight_in (line_of text)) (sights (behind_line text))
+pub sights-cut : (text : List ℕ) → sights text ≡ cons_option (sight_in (line_of text)) (sights (after_line text))
 sights-cut text = elim (cases_lt (position_or_len is_line_end text) (length text)) [
   | inl found ↦ ap (filter_map sight_in) (slice_split_first is_line_end text 0 found)
   | inr not_found ↦
       let none : position_or_len is_line_end text ≡ length text = omega (arith, prefix_len-le-length (λ x. not (is_line_end x)) text) in
       let line : line_of text ≡ text = ap (λ (n : ℕ). take n text) none ∙ take_all (length text) text (omega arith) in
-      let behind : behind_line text ≡ [] = drop_all (position_or_len is_line_end text + 1) text (omega (arith, none)) in
-      ap (filter_map sight_in) (one_line text none) ∙ sym (ap (λ (l : List ℕ). cons_option (sight_in l) (sights (behind_line text))) line ∙ ap (λ (l : List ℕ). cons_option (sight_in text) (sights l)) behind)
+      let after : after_line text ≡ [] = drop_all (position_or_len is_line_end text + 1) text (omega (arith, none)) in
+      ap (filter_map sight_in) (one_line text none) ∙ sym (ap (λ (l : List ℕ). cons_option (sight_in l) (sights (after_line text))) line ∙ ap (λ (l : List ℕ). cons_option (sight_in text) (sights l)) after)
 ]

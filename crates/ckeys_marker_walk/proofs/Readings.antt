@@ -6,7 +6,7 @@ use Rattle.std.specs.Prelude.{codes, nat_eq, nat_le}
 use Rattle.ckeys_marker_walk.proofs.Meaning.{meant-spelled, not_slash}
 use Rattle.ckeys_marker_walk.proofs.Quoting.{led_all}
 use Rattle.ckeys_marker_walk.specs.Markers.{Start, bare, worded, start_text, is_digit, is_space, IsMarker, IsNumbered, IsRefusing, IsRunOf, begins_special, misspelled, unreadable}
-use Rattle.ckeys_marker_walk.specs.Scanning.{Name, closed, unclosed, Sight, named, refused, behind_digits, behind_hash, behind_run, behind_spaces, led_by, name_from, past, quoted_at, sight_by, sight_in, sight_with}
+use Rattle.ckeys_marker_walk.specs.Scanning.{Name, closed, unclosed, Sight, named, refused, after_digits, after_hash, after_run, after_spaces, led_by, name_from, past, quoted_at, sight_by, sight_in, sight_with}
 use Rattle.ckeys_marker_walk.specs.Scanning as scan
 use Rattle.ckeys_marker_walk.specs.Spelling.{is_special, meant, spelled, spelled_byte}
 
@@ -15,17 +15,17 @@ abbrev pub heads : (ℕ → Bool) → List ℕ → Bool
 heads test [] = false
 heads test (b ∷ rest) = test b
 
-pub ends_run : (test : ℕ → Bool) (rest : List ℕ) → heads test rest ≡ false → behind_run test rest ≡ rest
+pub ends_run : (test : ℕ → Bool) (rest : List ℕ) → heads test rest ≡ false → after_run test rest ≡ rest
 ends_run test [] h = refl
-ends_run test (b ∷ rest) h = ap (λ (t : Bool). cond t (behind_run test rest) (b ∷ rest)) h
+ends_run test (b ∷ rest) h = ap (λ (t : Bool). cond t (after_run test rest) (b ∷ rest)) h
 
-over_run : (test : ℕ → Bool) (run rest : List ℕ) → AllByRecursion (λ b. test b ≡ true) run → behind_run test (run ++ rest) ≡ behind_run test rest
+over_run : (test : ℕ → Bool) (run rest : List ℕ) → AllByRecursion (λ b. test b ≡ true) run → after_run test (run ++ rest) ≡ after_run test rest
 over_run test [] rest h = refl
-over_run test (b ∷ run) rest h = ap (λ (t : Bool). cond t (behind_run test (run ++ rest)) (b ∷ (run ++ rest))) h.0 ∙ over_run test run rest h.1
+over_run test (b ∷ run) rest h = ap (λ (t : Bool). cond t (after_run test (run ++ rest)) (b ∷ (run ++ rest))) h.0 ∙ over_run test run rest h.1
 
-pub past_run : (test : ℕ → Bool) (run rest : List ℕ) → IsRunOf test run → past test (run ++ rest) ≡ Some (behind_run test rest)
+pub past_run : (test : ℕ → Bool) (run rest : List ℕ) → IsRunOf test run → past test (run ++ rest) ≡ Some (after_run test rest)
 past_run test [] rest h = absurd (omega (arith, h.some))
-past_run test (b ∷ run) rest h = ap (λ (t : Bool). cond t (Some (behind_run test (run ++ rest))) None) h.each.0 ∙ ap Some (over_run test run rest h.each.1)
+past_run test (b ∷ run) rest h = ap (λ (t : Bool). cond t (Some (after_run test (run ++ rest))) None) h.each.0 ∙ ap Some (over_run test run rest h.each.1)
 
 split_and : (a b : Bool) → (a && b) ≡ true → (a ≡ true) × (b ≡ true)
 split_and true b h = (refl, h)
@@ -55,10 +55,10 @@ no_line [] rest h = absurd (omega (arith, h.some))
 no_line (b ∷ spaces) rest h = ap (λ (n : ℕ). starts_with nat_eq (n ∷ (spaces ++ rest)) (codes "line")) (is_the_space b h.each.0)
 
 -- after its start
-with_start : (start : Start) (spaces digits rest : List ℕ) → IsRunOf is_space spaces → IsRunOf is_digit digits → sight_with start (spaces ++ (digits ++ rest)) ≡ sight_by start (quoted_at (past is_space (behind_run is_digit rest)))
+with_start : (start : Start) (spaces digits rest : List ℕ) → IsRunOf is_space spaces → IsRunOf is_digit digits → sight_with start (spaces ++ (digits ++ rest)) ≡ sight_by start (quoted_at (past is_space (after_run is_digit rest)))
 with_start start spaces digits rest s d =
-    ap (behind_spaces start) (past_run is_space spaces (digits ++ rest) s ∙ ap Some (ends_run is_space (digits ++ rest) (no_space digits rest d)))
-    ∙ ap (behind_digits start) (past_run is_digit digits rest d)
+    ap (after_spaces start) (past_run is_space spaces (digits ++ rest) s ∙ ap Some (ends_run is_space (digits ++ rest) (no_space digits rest d)))
+    ∙ ap (after_digits start) (past_run is_digit digits rest d)
 
 started : (start : Start) (spaces digits rest : List ℕ) → IsRunOf is_space spaces → IsRunOf is_digit digits → sight_in (start_text start ++ (spaces ++ (digits ++ rest))) ≡ sight_with start (spaces ++ (digits ++ rest))
 started bare spaces digits rest s d =
@@ -67,7 +67,7 @@ started bare spaces digits rest s d =
 started worded spaces digits rest s d = refl
 
 -- what a line says that begins with a number
-pub numbered_reads : (start : Start) (line rest : List ℕ) → IsNumbered start line rest → sight_in line ≡ sight_by start (quoted_at (past is_space (behind_run is_digit rest)))
+pub numbered_reads : (start : Start) (line rest : List ℕ) → IsNumbered start line rest → sight_in line ≡ sight_by start (quoted_at (past is_space (after_run is_digit rest)))
 numbered_reads start line rest n = ap sight_in n.whole ∙ started start n.spaces n.digits rest n.are_spaces n.are_digits ∙ with_start start n.spaces n.digits rest n.are_spaces n.are_digits
 
 -- and then a quote
@@ -118,8 +118,8 @@ closed_at (b ∷ bytes) = ap (λ (l : List ℕ). b ∷ l) (closed_at bytes)
 
 pub marker_reads : (line name : List ℕ) → IsMarker line name → sight_in line ≡ Some (named (spelled name))
 marker_reads line name m =
-    quoted_reads m.start line m.gap (spelled name ++ 34 ∷ m.behind) m.is_gap m.numbered
-    ∙ ap (sight_by m.start) (spelled_reads name (34 ∷ m.behind) ∙ ap closed (closed_at (spelled name)))
+    quoted_reads m.start line m.gap (spelled name ++ 34 ∷ m.after) m.is_gap m.numbered
+    ∙ ap (sight_by m.start) (spelled_reads name (34 ∷ m.after) ∙ ap closed (closed_at (spelled name)))
 
 named_alike : (a b : List ℕ) → Some (named a) ≡ Some (named b) → a ≡ b
 named_alike a b h = cc
@@ -128,7 +128,7 @@ pub one_name : (line name other : List ℕ) → IsMarker line name → IsMarker 
 one_name line name other m n =
     sym (meant-spelled name) ∙ ap meant (named_alike (spelled name) (spelled other) (sym (marker_reads line name m) ∙ marker_reads line other n)) ∙ meant-spelled other
 
-broken_at : (behind : List ℕ) → begins_special behind ≡ false → name_from false (92 ∷ behind) ≡ scan.misspelled
+broken_at : (after : List ℕ) → begins_special after ≡ false → name_from false (92 ∷ after) ≡ scan.misspelled
 broken_at [] h = refl
 broken_at (b ∷ rest) h = ap (λ (t : Bool). led_by 92 (cond t (led_by b (name_from false rest)) scan.misspelled)) h
 
@@ -139,8 +139,8 @@ sure line scan.misspelled e h = e
 
 module _ (back : (line raw : List ℕ) → sight_in line ≡ Some (named raw) → IsMarker line (meant raw)) where
   pub refusing_reads : (line : List ℕ) → IsRefusing line → sight_in line ≡ Some refused
-  refusing_reads line (unreadable rest n none) = sure line (quoted_at (past is_space (behind_run is_digit rest))) (numbered_reads bare line rest n) (λ raw e. none (meant raw) (back line raw e))
-  refusing_reads line (misspelled start gap front behind g h n) =
-      quoted_reads start line gap (spelled front ++ 92 ∷ behind) g n
-      ∙ ap (sight_by start) (spelled_reads front (92 ∷ behind) ∙ ap (led_all (spelled front)) (broken_at behind h))
+  refusing_reads line (unreadable rest n none) = sure line (quoted_at (past is_space (after_run is_digit rest))) (numbered_reads bare line rest n) (λ raw e. none (meant raw) (back line raw e))
+  refusing_reads line (misspelled start gap front after g h n) =
+      quoted_reads start line gap (spelled front ++ 92 ∷ after) g n
+      ∙ ap (sight_by start) (spelled_reads front (92 ∷ after) ∙ ap (led_all (spelled front)) (broken_at after h))
       ∙ refl

@@ -4,8 +4,8 @@ use Rattle.std.proofs.lemmas.Bool.Decides.{Decides-eqb}
 use Rattle.std.specs.List.{cons_option, position_or_len}
 use Rattle.memchr.specs.Find.{FindsNeedle, OccursAt}
 use Rattle.ckeys_marker_walk.proofs.Cutting.{sights-cut}
-use Rattle.ckeys_marker_walk.specs.Lines.{behind_line, is_line_end, line_of}
-use Rattle.ckeys_marker_walk.specs.Scanning.{Sight, begins_with_hash, behind_hash, sight_in, sights}
+use Rattle.ckeys_marker_walk.specs.Lines.{after_line, is_line_end, line_of}
+use Rattle.ckeys_marker_walk.specs.Scanning.{Sight, begins_with_hash, after_hash, sight_in, sights}
 
 untrue : (b : Bool) → (b ≡ true → ⊥) → b ≡ false
 untrue true h = absurd (h refl)
@@ -28,23 +28,23 @@ plain_by b rest true is h = ap (λ (t : Bool). sight_in (take (cond (not t) (1 +
 plain_by b rest false is h =
     ap (λ (t : Bool). sight_in (take (cond (not t) (1 + position_or_len is_line_end rest) 0) (b ∷ rest))) is
     ∙ ap (λ (n : ℕ). sight_in (take n (b ∷ rest))) (one_and (position_or_len is_line_end rest))
-    ∙ ap (λ (t : Bool). cond t (behind_hash (take (position_or_len is_line_end rest) rest)) None) h
+    ∙ ap (λ (t : Bool). cond t (after_hash (take (position_or_len is_line_end rest) rest)) None) h
 
 -- the first line is plain, unless it begins with `#`
 plain_line : (text : List ℕ) → begins_with_hash text ≡ false → sight_in (line_of text) ≡ None
 plain_line [] h = refl
 plain_line (b ∷ rest) h = plain_by b rest (b == 10) refl h
 
-sights-plain : (text : List ℕ) → begins_with_hash text ≡ false → sights text ≡ sights (behind_line text)
-sights-plain text h = sights-cut text ∙ ap (λ (o : Option Sight). cons_option o (sights (behind_line text))) (plain_line text h)
+sights-plain : (text : List ℕ) → begins_with_hash text ≡ false → sights text ≡ sights (after_line text)
+sights-plain text h = sights-cut text ∙ ap (λ (o : Option Sight). cons_option o (sights (after_line text))) (plain_line text h)
 
-behind_on : (b : ℕ) (rest : List ℕ) → (b == 10) ≡ false → behind_line (b ∷ rest) ≡ behind_line rest
-behind_on b rest is =
+after_on : (b : ℕ) (rest : List ℕ) → (b == 10) ≡ false → after_line (b ∷ rest) ≡ after_line rest
+after_on b rest is =
     ap (λ (t : Bool). drop (cond (not t) (1 + position_or_len is_line_end rest) 0 + 1) (b ∷ rest)) is
     ∙ ap (λ (n : ℕ). drop n (b ∷ rest)) (one-add-one (position_or_len is_line_end rest))
 
-behind_end : (b : ℕ) (rest : List ℕ) → (b == 10) ≡ true → behind_line (b ∷ rest) ≡ rest
-behind_end b rest is = ap (λ (t : Bool). drop (cond (not t) (1 + position_or_len is_line_end rest) 0 + 1) (b ∷ rest)) is
+after_end : (b : ℕ) (rest : List ℕ) → (b == 10) ≡ true → after_line (b ∷ rest) ≡ rest
+after_end b rest is = ap (λ (t : Bool). drop (cond (not t) (1 + position_or_len is_line_end rest) 0 + 1) (b ∷ rest)) is
 
 -- a line end and `#` are at this place
 abbrev Ends : List ℕ → ℕ → Type 0
@@ -68,31 +68,31 @@ ends_here b (c ∷ more) is h = record { fits = omega arith; reads = λ j lt. ap
 unhashed : (b : ℕ) (rest : List ℕ) → (b == 10) ≡ true → ¬ Ends (b ∷ rest) 0 → begins_with_hash rest ≡ false
 unhashed b rest is none = untrue _ (λ hash. none (ends_here b rest is hash))
 
-none_by : (b : ℕ) (rest : List ℕ) (ends : Bool) → (b == 10) ≡ ends → ¬ Ends (b ∷ rest) 0 → sights (behind_line rest) ≡ [] → sights (behind_line (b ∷ rest)) ≡ []
-none_by b rest false is none more = ap sights (behind_on b rest is) ∙ more
-none_by b rest true is none more = ap sights (behind_end b rest is) ∙ sights-plain rest (unhashed b rest is none) ∙ more
+none_by : (b : ℕ) (rest : List ℕ) (ends : Bool) → (b == 10) ≡ ends → ¬ Ends (b ∷ rest) 0 → sights (after_line rest) ≡ [] → sights (after_line (b ∷ rest)) ≡ []
+none_by b rest false is none more = ap sights (after_on b rest is) ∙ more
+none_by b rest true is none more = ap sights (after_end b rest is) ∙ sights-plain rest (unhashed b rest is none) ∙ more
 
-none_behind : (text : List ℕ) → ((k : ℕ) → k < length text → ¬ Ends text k) → sights (behind_line text) ≡ []
-none_behind [] none = refl
-none_behind (b ∷ rest) none =
-    none_by b rest (b == 10) refl (none 0 (omega arith)) (none_behind rest (λ k lt w. none (suc k) (omega (arith, lt)) (later b rest k w)))
+none_after : (text : List ℕ) → ((k : ℕ) → k < length text → ¬ Ends text k) → sights (after_line text) ≡ []
+none_after [] none = refl
+none_after (b ∷ rest) none =
+    none_by b rest (b == 10) refl (none 0 (omega arith)) (none_after rest (λ k lt w. none (suc k) (omega (arith, lt)) (later b rest k w)))
 
-some_by : (b : ℕ) (rest : List ℕ) (k : ℕ) (ends : Bool) → (b == 10) ≡ ends → ¬ Ends (b ∷ rest) 0 → sights (behind_line rest) ≡ sights (drop (k + 1) rest)
-    → sights (behind_line (b ∷ rest)) ≡ sights (drop (suc k + 1) (b ∷ rest))
-some_by b rest k false is none more = ap sights (behind_on b rest is) ∙ more ∙ sym (ap (λ (n : ℕ). sights (drop n (b ∷ rest))) (suc-add k 1))
+some_by : (b : ℕ) (rest : List ℕ) (k : ℕ) (ends : Bool) → (b == 10) ≡ ends → ¬ Ends (b ∷ rest) 0 → sights (after_line rest) ≡ sights (drop (k + 1) rest)
+    → sights (after_line (b ∷ rest)) ≡ sights (drop (suc k + 1) (b ∷ rest))
+some_by b rest k false is none more = ap sights (after_on b rest is) ∙ more ∙ sym (ap (λ (n : ℕ). sights (drop n (b ∷ rest))) (suc-add k 1))
 some_by b rest k true is none more =
-    ap sights (behind_end b rest is) ∙ sights-plain rest (unhashed b rest is none) ∙ more ∙ sym (ap (λ (n : ℕ). sights (drop n (b ∷ rest))) (suc-add k 1))
+    ap sights (after_end b rest is) ∙ sights-plain rest (unhashed b rest is none) ∙ more ∙ sym (ap (λ (n : ℕ). sights (drop n (b ∷ rest))) (suc-add k 1))
 
-some_behind : (text : List ℕ) (k : ℕ) → ((i : ℕ) → i < k → ¬ Ends text i) → Ends text k → sights (behind_line text) ≡ sights (drop (k + 1) text)
-some_behind [] k none h = absurd (omega (arith, h.fits))
-some_behind (b ∷ rest) zero none h = ap sights (behind_end b rest ((Decides-eqb b 10).1 (h.reads 0 (omega arith))))
-some_behind (b ∷ rest) (suc k) none h =
-    some_by b rest k (b == 10) refl (none 0 (omega arith)) (some_behind rest k (λ i lt w. none (suc i) (omega (arith, lt)) (later b rest i w)) (earlier b rest k h))
+some_after : (text : List ℕ) (k : ℕ) → ((i : ℕ) → i < k → ¬ Ends text i) → Ends text k → sights (after_line text) ≡ sights (drop (k + 1) text)
+some_after [] k none h = absurd (omega (arith, h.fits))
+some_after (b ∷ rest) zero none h = ap sights (after_end b rest ((Decides-eqb b 10).1 (h.reads 0 (omega arith))))
+some_after (b ∷ rest) (suc k) none h =
+    some_by b rest k (b == 10) refl (none 0 (omega arith)) (some_after rest k (λ i lt w. none (suc i) (omega (arith, lt)) (later b rest i w)) (earlier b rest k h))
 
 -- after the first line end that `#` follows, a text says what it says
 pub sights-found : (text : List ℕ) (k : ℕ) → begins_with_hash text ≡ false → FindsNeedle text (10 ∷ 35 ∷ []) 0 (Some k) → sights (drop (k + 1) text) ≡ sights text
-sights-found text k h found = sym (sights-plain text h ∙ some_behind text k (λ i lt. found.0.before i (omega arith) lt) found.1)
+sights-found text k h found = sym (sights-plain text h ∙ some_after text k (λ i lt. found.0.before i (omega arith) lt) found.1)
 
 -- without one it says nothing
 pub sights-nowhere : (text : List ℕ) → begins_with_hash text ≡ false → FindsNeedle text (10 ∷ 35 ∷ []) 0 None → sights text ≡ []
-sights-nowhere text h none = sights-plain text h ∙ none_behind text (λ k lt. none k (omega arith) (omega (arith, lt)))
+sights-nowhere text h none = sights-plain text h ∙ none_after text (λ k lt. none k (omega arith) (omega (arith, lt)))

@@ -13,7 +13,7 @@ use Rattle.ckeys_marker_walk.specs.Named.{accepted, asks_for_more, is_named, nam
 use Rattle.ckeys_marker_walk.specs.Scanning.{Sight, named, refused, sights}
 use Rattle.ckeys_marker_walk.specs.Seen.{has_come, slice_of}
 use Rattle.ckeys_marker_walk.specs.Spelling.{meant, spelled}
-use Rattle.ckeys_marker_walk.specs.Steps.{by_standing, came_before, names_behind, names_with, or_this, standing_on}
+use Rattle.ckeys_marker_walk.specs.Steps.{by_standing, came_before, names_after, names_with, or_this, standing_on}
 use Rattle.ckeys_marker_walk.specs.declared.walk.Seen.{Seen}
 use Rattle.ckeys_marker_walk.specs.declared.walk.Standing.{Standing}
 use Rattle.ckeys_marker_walk.specs.declared.walk.Standing.TheVariants.{Counts, Refuses, Skipped}
@@ -129,11 +129,11 @@ module _ (dir : Bytes) (files : Tree) (input : Bytes) where
       ∙ ap (by_standing (standing_on dir files input (meant raw)) (meant raw)) k ∙ counted (meant raw) (fresh (or_this raw came) (once names))
       ∙ ap counting (sym (ap (λ (t : Bool). cond (not t) (meant raw ∷ fresh came others) (fresh came others)) come ∙ ap (λ (l : List Bytes). meant raw ∷ l) (fresh_more came raw (once names) well)))
 
-  behind_all : (came : Bytes → Bool) (told : List Sight) → AllByRecursion IsSpelledWell told → names_behind dir files input came told ≡ ending came (list_any refuses told) (filter_map name_of told)
-  behind_all came [] well = refl
-  behind_all came (refused ∷ told) well = refl
-  behind_all came (named raw ∷ told) well =
-      step came raw (filter_map name_of told) (list_any refuses told) (came raw) (names_behind dir files input came told) (names_behind dir files input (or_this raw came) told) well.0 refl (behind_all came told well.1) (behind_all (or_this raw came) told well.1)
+  after_all : (came : Bytes → Bool) (told : List Sight) → AllByRecursion IsSpelledWell told → names_after dir files input came told ≡ ending came (list_any refuses told) (filter_map name_of told)
+  after_all came [] well = refl
+  after_all came (refused ∷ told) well = refl
+  after_all came (named raw ∷ told) well =
+      step came raw (filter_map name_of told) (list_any refuses told) (came raw) (names_after dir files input came told) (names_after dir files input (or_this raw came) told) well.0 refl (after_all came told well.1) (after_all (or_this raw came) told well.1)
 
 all_kept : (names : List Bytes) → fresh (λ _. false) names ≡ names
 all_kept [] = refl
@@ -144,9 +144,9 @@ all_fresh : (told : Option (List Bytes)) (dir : Bytes) (files : Tree) (input : B
 all_fresh None dir files input = refl
 all_fresh (Some names) dir files input = ap (counting dir files input) (all_kept (once names))
 
-behind_none : (names : Option (List Bytes)) → option_map (λ others. [] ++ others) names ≡ names
-behind_none None = refl
-behind_none (Some names) = refl
+after_none : (names : Option (List Bytes)) → option_map (λ others. [] ++ others) names ≡ names
+after_none None = refl
+after_none (Some names) = refl
 
 module _ (dir : Bytes) (files : Tree) (input : Bytes) where
   -- before the first marker
@@ -154,9 +154,9 @@ module _ (dir : Bytes) (files : Tree) (input : Bytes) where
   before_all text names seen empty none more =
       let came : came_before seen ≡ (λ _. false) = (λ j. λ raw. none (slice_of raw) j) in
       ap (λ (l : List Bytes). names_with dir files input l seen (sights text)) empty
-      ∙ ap (λ (f : Bytes → Bool). option_map (λ others. [] ++ others) (names_behind dir files input f (sights text))) came
-      ∙ behind_none (names_behind dir files input (λ _. false) (sights text))
-      ∙ behind_all dir files input (λ _. false) (sights text) (all_spelled_well text)
+      ∙ ap (λ (f : Bytes → Bool). option_map (λ others. [] ++ others) (names_after dir files input f (sights text))) came
+      ∙ after_none (names_after dir files input (λ _. false) (sights text))
+      ∙ after_all dir files input (λ _. false) (sights text) (all_spelled_well text)
       ∙ all_fresh (names_told (sights text)) dir files input
       ∙ sym (ap (λ (t : Bool). option_and_then (counting dir files input) (cond t None (option_map once (names_told (sights text))))) more)
 
@@ -167,17 +167,17 @@ module _ (dir : Bytes) (files : Tree) (input : Bytes) where
   module _ (names : List Bytes) (seen : Seen) (raw : Bytes) (told : List Sight) where
     -- one that comes first, with what becomes of it
     comes_first : (new : Seen) (v : Standing) → has_come seen (slice_of raw) ≡ false → ((other : Bor Bytes) → has_come new other ≡ (bytes_eq raw other.now || has_come seen other)) → standing_on dir files input (meant raw) ≡ v
-        → names_with dir files input names seen (named raw ∷ told) ≡ option_map (λ others. names ++ others) (by_standing v (meant raw) (names_behind dir files input (came_before new) told))
+        → names_with dir files input names seen (named raw ∷ told) ≡ option_map (λ others. names ++ others) (by_standing v (meant raw) (names_after dir files input (came_before new) told))
     comes_first new v first come is =
         let came : came_before new ≡ or_this raw (came_before seen) = (λ j. λ other. come (slice_of other) j) in
-        ap (λ (t : Bool). option_map (λ others. names ++ others) (cond t (names_behind dir files input (came_before seen) told) (by_standing (standing_on dir files input (meant raw)) (meant raw) (names_behind dir files input (or_this raw (came_before seen)) told)))) first
-        ∙ ap (λ (w : Standing). option_map (λ others. names ++ others) (by_standing w (meant raw) (names_behind dir files input (or_this raw (came_before seen)) told))) is
-        ∙ sym (ap (λ (f : Bytes → Bool). option_map (λ others. names ++ others) (by_standing v (meant raw) (names_behind dir files input f told))) came)
+        ap (λ (t : Bool). option_map (λ others. names ++ others) (cond t (names_after dir files input (came_before seen) told) (by_standing (standing_on dir files input (meant raw)) (meant raw) (names_after dir files input (or_this raw (came_before seen)) told)))) first
+        ∙ ap (λ (w : Standing). option_map (λ others. names ++ others) (by_standing w (meant raw) (names_after dir files input (or_this raw (came_before seen)) told))) is
+        ∙ sym (ap (λ (f : Bytes → Bool). option_map (λ others. names ++ others) (by_standing v (meant raw) (names_after dir files input f told))) came)
 
     pub comes_first_counts : (new : Seen) (more : List Bytes) → has_come seen (slice_of raw) ≡ false → ((other : Bor Bytes) → has_come new other ≡ (bytes_eq raw other.now || has_come seen other)) → standing_on dir files input (meant raw) ≡ Counts
         → more ≡ names ++ meant raw ∷ [] → names_with dir files input names seen (named raw ∷ told) ≡ names_with dir files input more new told
     comes_first_counts new more first come is pushed =
-        comes_first new Counts first come is ∙ twice names (meant raw) (names_behind dir files input (came_before new) told)
+        comes_first new Counts first come is ∙ twice names (meant raw) (names_after dir files input (came_before new) told)
         ∙ sym (ap (λ (l : List Bytes). names_with dir files input l new told) pushed)
 
     pub comes_first_skipped : (new : Seen) → has_come seen (slice_of raw) ≡ false → ((other : Bor Bytes) → has_come new other ≡ (bytes_eq raw other.now || has_come seen other)) → standing_on dir files input (meant raw) ≡ Skipped

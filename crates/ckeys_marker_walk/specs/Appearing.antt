@@ -11,16 +11,16 @@ use Rattle.ckeys_marker_walk.specs.Told.{HasMarker, IsRefused}
 -- The one name is in the list, and the other one is after it.
 pub record StandsBefore (names : List Bytes) (one other : Bytes) : Type 0 where
   pub front : List Bytes
-  pub behind : List Bytes
-  pub whole : names ≡ front ++ one ∷ behind
-  pub stands : Contains behind other
+  pub after : List Bytes
+  pub whole : names ≡ front ++ one ∷ after
+  pub stands : Contains after other
 
 -- A line of the text is a marker of the one name, and no line before it is a marker of the other.
 pub record AppearsBefore (text one other : Bytes) : Type 0 where
   pub front : List Bytes
   pub line : Bytes
-  pub behind : List Bytes
-  pub whole : lines text ≡ front ++ line ∷ behind
+  pub after : List Bytes
+  pub whole : lines text ≡ front ++ line ∷ after
   pub is : IsMarker line one
   pub none : (earlier : Bytes) → Contains front earlier → ¬ IsMarker earlier other
 

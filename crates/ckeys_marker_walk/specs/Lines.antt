@@ -15,5 +15,5 @@ abbrev pub line_of : Bytes → Bytes
 line_of text = before_first is_line_end text
 
 -- what comes after its end
-abbrev pub behind_line : Bytes → Bytes
-behind_line text = after_first is_line_end text
+abbrev pub after_line : Bytes → Bytes
+after_line text = after_first is_line_end text

@@ -40,9 +40,9 @@ pub record IsNumbered (start : Start) (line rest : Bytes) : Type 0 where
 pub record IsMarker (line name : Bytes) : Type 0 where
   pub start : Start
   pub gap : Bytes
-  pub behind : Bytes
+  pub after : Bytes
   pub is_gap : IsRunOf is_space gap
-  pub numbered : IsNumbered start line (gap ++ 34 ∷ (spelled name ++ 34 ∷ behind))
+  pub numbered : IsNumbered start line (gap ++ 34 ∷ (spelled name ++ 34 ∷ after))
 
 abbrev pub begins_special : Bytes → Bool
 begins_special [] = false
@@ -54,6 +54,6 @@ pub data IsRefusing (line : Bytes) : Type 0 where
   unreadable : (rest : Bytes) → IsNumbered bare line rest
       → ((name : Bytes) → ¬ IsMarker line name) → IsRefusing line
   -- in its name a backslash, which is 92, comes before another byte than a quote or a backslash, or before the line's end
-  misspelled : (start : Start) (gap front behind : Bytes) → IsRunOf is_space gap
-      → begins_special behind ≡ false
-      → IsNumbered start line (gap ++ 34 ∷ (spelled front ++ 92 ∷ behind)) → IsRefusing line
+  misspelled : (start : Start) (gap front after : Bytes) → IsRunOf is_space gap
+      → begins_special after ≡ false
+      → IsNumbered start line (gap ++ 34 ∷ (spelled front ++ 92 ∷ after)) → IsRefusing line

@@ -9,14 +9,14 @@ use Rattle.ckeys_marker_walk.specs.Markers.{is_space, is_digit, Start, bare, wor
 use Rattle.ckeys_marker_walk.specs.Spelling.{is_special}
 
 -- what comes after the bytes that pass
-abbrev pub behind_run : (ℕ → Bool) → Bytes → Bytes
-behind_run test [] = []
-behind_run test (b ∷ rest) = if test b then behind_run test rest else b ∷ rest
+abbrev pub after_run : (ℕ → Bool) → Bytes → Bytes
+after_run test [] = []
+after_run test (b ∷ rest) = if test b then after_run test rest else b ∷ rest
 
 -- the same, where one passes
 abbrev pub past : (ℕ → Bool) → Bytes → Option Bytes
 past test [] = None
-past test (b ∷ rest) = if test b then Some (behind_run test rest) else None
+past test (b ∷ rest) = if test b then Some (after_run test rest) else None
 
 -- what comes after an opening quote: a name and the quote that closes it, or no such quote, or a backslash before another byte
 pub data Name : Type 0 where
@@ -55,20 +55,20 @@ sight_by start misspelled = Some refused
 sight_by bare unclosed = Some refused
 sight_by worded unclosed = None
 
-abbrev pub behind_digits : Start → Option Bytes → Option Sight
-behind_digits start None = None
-behind_digits start (Some rest) = sight_by start (quoted_at (past is_space rest))
+abbrev pub after_digits : Start → Option Bytes → Option Sight
+after_digits start None = None
+after_digits start (Some rest) = sight_by start (quoted_at (past is_space rest))
 
-abbrev pub behind_spaces : Start → Option Bytes → Option Sight
-behind_spaces start None = None
-behind_spaces start (Some rest) = behind_digits start (past is_digit rest)
+abbrev pub after_spaces : Start → Option Bytes → Option Sight
+after_spaces start None = None
+after_spaces start (Some rest) = after_digits start (past is_digit rest)
 
 -- what a line says that continues like this after its start
 abbrev pub sight_with : Start → Bytes → Option Sight
-sight_with start rest = behind_spaces start (past is_space rest)
+sight_with start rest = after_spaces start (past is_space rest)
 
-abbrev pub behind_hash : Bytes → Option Sight
-behind_hash rest =
+abbrev pub after_hash : Bytes → Option Sight
+after_hash rest =
     if starts_with nat_eq rest (codes "line") then sight_with worded (drop 4 rest)
     else sight_with bare rest
 
@@ -80,7 +80,7 @@ begins_with_hash (b ∷ rest) = b == 35
 -- what a line says, if it isn't plain
 abbrev pub sight_in : Bytes → Option Sight
 sight_in [] = None
-sight_in (b ∷ rest) = if b == 35 then behind_hash rest else None
+sight_in (b ∷ rest) = if b == 35 then after_hash rest else None
 
 -- what the lines of a text say
 abbrev pub sights : Bytes → List Sight

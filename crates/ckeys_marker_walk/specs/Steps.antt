@@ -29,14 +29,14 @@ abbrev pub or_this : Bytes → (Bytes → Bool) → Bytes → Bool
 or_this raw came other = bytes_eq raw other || came other
 
 -- the names that follow, where these came before, as written between quotes
-abbrev pub names_behind :
+abbrev pub names_after :
     Bytes → Tree → Bytes → (Bytes → Bool) → List Sight → Option (List Bytes)
-names_behind dir files input came [] = Some []
-names_behind dir files input came (refused ∷ told) = None
-names_behind dir files input came (named raw ∷ told) =
-    if came raw then names_behind dir files input came told
+names_after dir files input came [] = Some []
+names_after dir files input came (refused ∷ told) = None
+names_after dir files input came (named raw ∷ told) =
+    if came raw then names_after dir files input came told
     else by_standing (standing_on dir files input (meant raw)) (meant raw)
-    (names_behind dir files input (or_this raw came) told)
+    (names_after dir files input (or_this raw came) told)
 
 abbrev pub came_before : Seen → Bytes → Bool
 came_before seen raw = has_come seen (slice_of raw)
@@ -45,4 +45,4 @@ came_before seen raw = has_come seen (slice_of raw)
 abbrev pub names_with :
     Bytes → Tree → Bytes → List Bytes → Seen → List Sight → Option (List Bytes)
 names_with dir files input names seen told =
-    option_map (λ others. names ++ others) (names_behind dir files input (came_before seen) told)
+    option_map (λ others. names ++ others) (names_after dir files input (came_before seen) told)

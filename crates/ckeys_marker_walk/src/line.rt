@@ -3,7 +3,7 @@
 ghost use Rattle.std.specs.Prelude.{◌≡◌, ◌≤◌, IfSome, length, false};
 ghost use Rattle.std.specs.Option.{option_copied, option_map};
 ghost use Rattle.ckeys_marker_walk.specs.Markers.{is_within};
-ghost use Rattle.ckeys_marker_walk.specs.Scanning.{behind_run, past, name_from, quoted_at, sight_in, sight_of_mark, sight_with};
+ghost use Rattle.ckeys_marker_walk.specs.Scanning.{after_run, past, name_from, quoted_at, sight_in, sight_of_mark, sight_with};
 ghost use Rattle.ckeys_marker_walk.specs.Spelling.{is_special};
 ghost use Rattle.ckeys_marker_walk.specs.Sights.{quoted_of, start_of};
 
@@ -42,15 +42,15 @@ fn is_within(low: u8, high: u8, byte: u8) -> bool
 }
 
 /// What comes after the bytes from the one to the other.
-fn behind_run(bytes: &[u8], low: u8, high: u8) -> &[u8]
-    ensures { result.now ≡ behind_run (is_within low high) bytes.now }
+fn after_run(bytes: &[u8], low: u8, high: u8) -> &[u8]
+    ensures { result.now ≡ after_run (is_within low high) bytes.now }
 {
     let mut rest = bytes;
-    while let Some((first, behind)) = rest.split_first() {
+    while let Some((first, after)) = rest.split_first() {
         if !is_within(low, high, *first) {
             break;
         }
-        rest = behind;
+        rest = after;
     }
     rest
 }
@@ -60,7 +60,7 @@ fn behind_run(bytes: &[u8], low: u8, high: u8) -> &[u8]
 fn past(bytes: &[u8], low: u8, high: u8) -> Option<&[u8]>
     ensures { option_copied result ≡ past (is_within low high) bytes.now }
 {
-    let rest = behind_run(bytes, low, high);
+    let rest = after_run(bytes, low, high);
     if rest.len() == bytes.len() {
         None
     } else {
@@ -108,9 +108,9 @@ fn quoted_name(bytes: &[u8]) -> Quoted<'_>
         return Quoted::Unclosed;
     };
     match gone.split_first() {
-        Some((first, behind)) => {
+        Some((first, after)) => {
             if *first == b'"' {
-                name_in(behind)
+                name_in(after)
             } else {
                 Quoted::Unclosed
             }
@@ -124,8 +124,8 @@ fn mark_with<'a>(start: Start, rest: &'a [u8]) -> Option<Mark<'a>>
     ensures { option_map sight_of_mark result ≡ sight_with (start_of start) rest.now }
 {
     let digits = past(rest, b' ', b' ')?;
-    let behind = past(digits, b'0', b'9')?;
-    match quoted_name(behind) {
+    let after = past(digits, b'0', b'9')?;
+    match quoted_name(after) {
         Quoted::Closed(name) => Some(Mark::Named(name)),
         Quoted::Misspelled => Some(Mark::Refused),
         Quoted::Unclosed => match start {

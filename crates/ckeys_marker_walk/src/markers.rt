@@ -1,7 +1,7 @@
 //! The markers of a text, one after another.
 
 ghost use Rattle.std.specs.Prelude.{◌≡◌, ◌≤◌, length};
-ghost use Rattle.ckeys_marker_walk.specs.Lines.{lines, line_of, behind_line};
+ghost use Rattle.ckeys_marker_walk.specs.Lines.{lines, line_of, after_line};
 ghost use Rattle.ckeys_marker_walk.specs.Left.{sights_left};
 ghost use Rattle.ckeys_marker_walk.specs.Scanning.{begins_with_hash, sights};
 ghost use Rattle.ckeys_marker_walk.specs.Told.{Tell};
@@ -31,7 +31,7 @@ impl<'a> Markers<'a> {
 /// The first line of a text, and what comes after its end.
 fn cut_line(text: &[u8]) -> (&[u8], &[u8])
     ensures line { result.0.now ≡ line_of text.now }
-    ensures behind { result.1.now ≡ behind_line text.now }
+    ensures after { result.1.now ≡ after_line text.now }
 {
     match memchr(b'\n', text) {
         Some(end) => (&text[..end], &text[end + 1..]),
@@ -77,8 +77,8 @@ impl<'a> Iterator for Markers<'a> {
     fn next(&mut self) -> Option<Mark<'a>> {
         while !self.rest.is_empty() {
             let marked = from_hash(self.rest);
-            let (line, behind) = cut_line(marked);
-            self.rest = behind;
+            let (line, after) = cut_line(marked);
+            self.rest = after;
             if let Some(mark) = mark_in(line) {
                 return Some(mark);
             }

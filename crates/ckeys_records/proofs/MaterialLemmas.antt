@@ -37,12 +37,12 @@ ended (a ∷ w) [] us vs p q h =
 ended (a ∷ w) (b ∷ v) us vs p q h =
     let head : a ≡ b = cc in
     let tail : w ++ (255 ∷ us) ≡ v ++ (255 ∷ vs) = cc in
-    let rest : (w ≡ v) × (us ≡ vs) = ended w v us vs (behind (a == 255) p) (behind (b == 255) q) tail in
+    let rest : (w ≡ v) × (us ≡ vs) = ended w v us vs (after (a == 255) p) (after (b == 255) q) tail in
     (rw (head, rest.0) refl, rest.1)
   where
-    behind : (s : Bool) {t : Bool} → (s || t) ≡ false → t ≡ false
-    behind true h = cc
-    behind false h = h
+    after : (s : Bool) {t : Bool} → (s || t) ≡ false → t ≡ false
+    after true h = cc
+    after false h = h
 
 words_told : (ws vs : List Bytes) (us us' : Bytes) → length ws ≡ length vs → AllByRecursion LacksEnd ws → AllByRecursion LacksEnd vs → words_bytes ws ++ us ≡ words_bytes vs ++ us' → (ws ≡ vs) × (us ≡ us')
 words_told [] [] us us' l p q h = (refl, h)
@@ -77,8 +77,8 @@ framed_told x y us vs p q h =
 variable_told : (v w : Variable) (us vs : Bytes) → FitsLength v → FitsLength w → variable_bytes v ++ us ≡ variable_bytes w ++ vs → (v ≡ w) × (us ≡ vs)
 variable_told (n, x) (m, y) us vs p q h =
     let one : (n ≡ m) × ((61 ∷ (framed x ++ us)) ≡ (61 ∷ (framed y ++ vs))) = framed_told n m (61 ∷ (framed x ++ us)) (61 ∷ (framed y ++ vs)) p.0 q.0 (sym (append_assoc (framed n) (61 ∷ framed x) us) ∙ h ∙ append_assoc (framed m) (61 ∷ framed y) vs) in
-    let behind : (framed x ++ us) ≡ (framed y ++ vs) = cc in
-    let two : (x ≡ y) × (us ≡ vs) = framed_told x y us vs p.1 q.1 behind in
+    let after : (framed x ++ us) ≡ (framed y ++ vs) = cc in
+    let two : (x ≡ y) × (us ≡ vs) = framed_told x y us vs p.1 q.1 after in
     (rw (one.0, two.0) refl, two.1)
 
 variables_told : (vs ws : List Variable) (us us' : Bytes) → length vs ≡ length ws → AllByRecursion FitsLength vs → AllByRecursion FitsLength ws → variables_bytes vs ++ us ≡ variables_bytes ws ++ us' → (vs ≡ ws) × (us ≡ us')

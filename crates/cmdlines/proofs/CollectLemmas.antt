@@ -9,7 +9,7 @@ use Rattle.std.specs.Option.{option_to_list}
 use Rattle.base_files.specs.Bytes.{Bytes}
 use Rattle.cmdlines_base.specs.Cutting.{Place, reading_at}
 use Rattle.cmdlines_base.specs.Printing.{is_empty_j, words_of}
-use Rattle.cmdlines_base.specs.Reading.{Item, Reading, raw, unknown, flag, valued, behind_dashes, before, nothing}
+use Rattle.cmdlines_base.specs.Reading.{Item, Reading, raw, unknown, flag, valued, after_dashes, before, nothing}
 use Rattle.cmdlines_base.specs.Table.{Entry}
 use Rattle.cmdlines_base.specs.Refusal.{Refusal}
 use Rattle.cmdlines_base.specs.Values.{Steps, refusal_of, values_by}
@@ -33,7 +33,7 @@ never_refused (raw w) why h = cc
 never_refused (unknown w) why h = cc
 never_refused (flag f k) why h = cc
 never_refused (valued f k w d) why h = cc
-never_refused (behind_dashes w) why h = cc
+never_refused (after_dashes w) why h = cc
 
 -- words that can't be cut, and no value is refused: they end where a value should come
 pub cut_short : (table : List (Entry ArgKind)) (old new : Place) (error : ArgParseError) → Steps (values_by IsFlag IsValue never) table old (Some (Err error)) new → (error ≡ Memory → ⊥) → reading_at table old ≡ record { items = []; cut_short = true }

@@ -6,7 +6,7 @@ use Rattle.std.specs.Prelude.{codes}
 use Rattle.base_files.specs.Bytes.{Bytes}
 use Rattle.cmdlines_base.specs.Again.{lets_dashes, is_clear, ReadsAgain, AllReadAgain, AllReadAgainUnlessEmpty, ReadsTogether}
 use Rattle.cmdlines_base.specs.Printing.{is_empty_j, normal, words_of}
-use Rattle.cmdlines_base.specs.Reading.{Item, raw, unknown, flag, valued, behind_dashes, is_behind, Reading, reading, before, all_before, all_behind, first_word, whole, awaits, ends, Reads, alone, with_value, options_end}
+use Rattle.cmdlines_base.specs.Reading.{Item, raw, unknown, flag, valued, after_dashes, is_after, Reading, reading, before, all_before, all_after, first_word, whole, awaits, ends, Reads, alone, with_value, options_end}
 use Rattle.cmdlines_base.specs.Table.{Entry}
 use Rattle.cmdlines_base.specs.declared.argument.ArgDisposition.{ArgDisposition}
 use Rattle.cmdlines_base.specs.declared.argument.ArgDisposition.TheVariants.{CanBeConcatenated}
@@ -18,7 +18,7 @@ use Rattle.cmdlines_tables.specs.declared.kind.ArgKind.{ArgKind}
 use Rattle.cmdlines_tables.specs.declared.kind.ArgKind.TheVariants.{DepArgumentPath, DepTarget}
 use Rattle.cmdlines_tables.specs.declared.kind.OptionList.{OptionList}
 use Rattle.cmdlines_tables.specs.declared.kind.OptionList.TheVariants as lists
-use Rattle.cmdlines.specs.Commands.{object_path, front_words, front_items, behind_words, behind_items, color_words, color_items, lacks_path, lacks_target, beside, when_words, when_items, added_words, added_items, compile_words, compile_items, preprocess_words, preprocess_items, ReadsAs}
+use Rattle.cmdlines.specs.Commands.{object_path, front_words, front_items, after_words, after_items, color_words, color_items, lacks_path, lacks_target, beside, when_words, when_items, added_words, added_items, compile_words, compile_items, preprocess_words, preprocess_items, ReadsAs}
 use Rattle.cmdlines.specs.Parsing.{parse_of, asks, HasSafeInput, IsSafeBy}
 use Rattle.cmdlines.specs.Wanted.{is_wanted, wanted, facts_of, lists_of}
 use Rattle.cmdlines_tables.specs.declared.parsed.DependencyOptions.{DependencyOptions}
@@ -67,10 +67,10 @@ module _ (has : HasReading) (only : OneReading) (d : Bool) (t : List (Entry ArgK
   none_end : Ends [] []
   none_end = record { found = []; reads = refl; alike = refl }
 
-  dashes_end : (word input : Bytes) → first_word d t word ≡ ends → Ends (word ∷ input ∷ []) (behind_dashes input ∷ [])
+  dashes_end : (word input : Bytes) → first_word d t word ≡ ends → Ends (word ∷ input ∷ []) (after_dashes input ∷ [])
   dashes_end word input h = record {
-    found = behind_dashes input ∷ [];
-    reads = sym (only d t (word ∷ input ∷ []) (all_behind (input ∷ [])) (options_end h));
+    found = after_dashes input ∷ [];
+    reads = sym (only d t (word ∷ input ∷ []) (all_after (input ∷ [])) (options_end h));
     alike = refl;
   }
 
@@ -101,18 +101,18 @@ module _ (has : HasReading) (only : OneReading) (d : Bool) (t : List (Entry ArgK
       let rest : list_any (is_empty_j t) items ≡ false = grind arith in
       by (is_wanted list a) refl here (wanted_again list some items h.1 rest)
     where
-      front : (b : Item ArgKind) → is_wanted list b ≡ true → is_behind b ≡ false
+      front : (b : Item ArgKind) → is_wanted list b ≡ true → is_after b ≡ false
       front (raw w) of = refl
       front (unknown w) of = refl
       front (flag f k) of = refl
       front (valued f k v e) of = refl
-      front (behind_dashes w) of = absurd (clash of)
+      front (after_dashes w) of = absurd (clash of)
         where
           clash : is_same_list lists.Nowhere list ≡ true → ⊥
           clash of = cc
 
-      reads : is_empty_j t a ≡ false → is_behind a ≡ false → ReadsAgain d t a
-      reads here at = h.0 (by_both (is_behind a) (is_empty_j t a) at here)
+      reads : is_empty_j t a ≡ false → is_after a ≡ false → ReadsAgain d t a
+      reads here at = h.0 (by_both (is_after a) (is_empty_j t a) at here)
         where
           by_both : (s e : Bool) → s ≡ false → e ≡ false → ((s && d) || e) ≡ false
           by_both false false p q = refl
@@ -170,7 +170,7 @@ module _ (has : HasReading) (only : OneReading) (again : ItemsAgain) (together :
       (when_on (lacks_target kind o) (codes "-MT") DepTarget path (λ h. own.dependency_target (writes (writes_dependencies kind) o.asked (not o.target) h) path))
 
   -- the input among the options, and after them
-  front_on : (behind : Bool) (input : Bytes) → IsSafeBy d t behind input → Reads-on (front_words behind input) (front_items behind input)
+  front_on : (after : Bool) (input : Bytes) → IsSafeBy d t after input → Reads-on (front_words after input) (front_items after input)
   front_on true input safe = none_on has only d t
   front_on false input (inl h) = absurd (clash h.0)
     where
@@ -181,10 +181,10 @@ module _ (has : HasReading) (only : OneReading) (again : ItemsAgain) (together :
   ends_there : d ≡ true → first_word d t (codes "--") ≡ ends
   ends_there h = ap (λ s. first_word s t (codes "--")) h
 
-  behind_end : (behind : Bool) (input : Bytes) → IsSafeBy d t behind input → Ends-at (behind_words behind input) (behind_items behind input)
-  behind_end false input safe = none_end has only d t
-  behind_end true input (inl h) = dashes_end has only d t (codes "--") input (ends_there h.1)
-  behind_end true input (inr h) = absurd (clash h.0)
+  after_end : (after : Bool) (input : Bytes) → IsSafeBy d t after input → Ends-at (after_words after input) (after_items after input)
+  after_end false input safe = none_end has only d t
+  after_end true input (inl h) = dashes_end has only d t (codes "--") input (ends_there h.1)
+  after_end true input (inr h) = absurd (clash h.0)
     where
       clash : true ≡ false → ⊥
       clash h = cc
@@ -235,7 +235,7 @@ module _ (has : HasReading) (only : OneReading) (again : ItemsAgain) (together :
         unhashed_on)
         common_on)
         arch_on)
-        (behind_end p.double_dash_input p.input safe))
+        (after_end p.double_dash_input p.input safe))
 
     pub preprocess_again : ReadsAs kind (preprocess_words kind p) (preprocess_items kind p items)
     preprocess_again = reads_as (preprocess_words kind p) (preprocess_items kind p items)
@@ -248,4 +248,4 @@ module _ (has : HasReading) (only : OneReading) (again : ItemsAgain) (together :
         (added_on p.dependencies (object_path p)))
         common_on)
         arch_on)
-        (behind_end p.double_dash_input p.input safe))
+        (after_end p.double_dash_input p.input safe))

@@ -4,8 +4,8 @@ use Rattle.std.specs.Prelude.{codes, find, unwrap_or, is_some, nat_lt}
 use Rattle.std.specs.List.{AllByRecursion, flat_map, list_any}
 use Rattle.std.specs.Option.{option_map, option_to_list}
 use Rattle.base_files.specs.Bytes.{Bytes}
-use Rattle.cmdlines_base.specs.Reading.{Item, raw, unknown, flag, valued, behind_dashes, Start, whole, awaits, ends, Reading, loose, start_as, start_either, first_by, first_word, is_double_dash, from_last, from_first, unfinished, reading}
-use Rattle.cmdlines_base.specs.Table.{Entry, behind, fits, longer, longest_fit}
+use Rattle.cmdlines_base.specs.Reading.{Item, raw, unknown, flag, valued, after_dashes, Start, whole, awaits, ends, Reading, loose, start_as, start_either, first_by, first_word, is_double_dash, from_last, from_first, unfinished, reading}
+use Rattle.cmdlines_base.specs.Table.{Entry, after, fits, longer, longest_fit}
 use Rattle.cmdlines_base.specs.declared.argument.ArgDisposition.{ArgDisposition}
 use Rattle.cmdlines_base.specs.declared.argument.ArgDisposition.TheVariants.{Separated, CanBeConcatenated, CanBeSeparated, Concatenated}
 use Rattle.cmdlines_base.specs.declared.command.ArtifactDescriptor.{ArtifactDescriptor}
@@ -128,7 +128,7 @@ module _ (d : Bool) (t : List (Entry ArgKind)) where
   IsSafe (unknown w) = Unit {0}
   IsSafe (flag f k) = Gives k
   IsSafe (valued f k v e) = Gives k
-  IsSafe (behind_dashes w) = d ≡ true
+  IsSafe (after_dashes w) = d ≡ true
 
   -- what a word can be by itself
   abbrev IsOfWord : Bytes → Item ArgKind → Type 0
@@ -136,7 +136,7 @@ module _ (d : Bool) (t : List (Entry ArgKind)) where
   IsOfWord word (unknown w) = Unit {0}
   IsOfWord word (flag f k) = Gives k
   IsOfWord word (valued f k v e) = Gives k
-  IsOfWord word (behind_dashes w) = ⊥
+  IsOfWord word (after_dashes w) = ⊥
 
   abbrev StartsOf : Bytes → Start ArgKind → Type 0
   StartsOf word (whole a) = IsOfWord word a
@@ -164,7 +164,7 @@ module _ (d : Bool) (t : List (Entry ArgKind)) where
 
   entry_of : (word : Bytes) (o : Option (Entry ArgKind)) → longest_fit t word ≡ o → StartsOf word (first_by o word)
   entry_of word None h = loose_of word
-  entry_of word (Some e) h = start_of word e.flag e.kind e.takes (unwrap_or (behind e.flag word) []) (fit_among gives_input t word e h)
+  entry_of word (Some e) h = start_of word e.flag e.kind e.takes (unwrap_or (after e.flag word) []) (fit_among gives_input t word e h)
 
   dash_of : (word : Bytes) (s : Bool) → (s ≡ true → d ≡ true) → StartsOf word (cond s ends (first_by (longest_fit t word) word))
   dash_of word true h = h refl
@@ -182,11 +182,11 @@ module _ (d : Bool) (t : List (Entry ArgKind)) where
   item_safe word (unknown w) h of = tt
   item_safe word (flag f k) h of = of
   item_safe word (valued f k v e) h of = of
-  item_safe word (behind_dashes w) h of = absurd of
+  item_safe word (after_dashes w) h of = absurd of
 
-  behind_safe : d ≡ true → (words : List Bytes) → AllByRecursion IsSafe (map behind_dashes words)
-  behind_safe h [] = tt
-  behind_safe h (w ∷ words) = (h, behind_safe h words)
+  after_safe : d ≡ true → (words : List Bytes) → AllByRecursion IsSafe (map after_dashes words)
+  after_safe h [] = tt
+  after_safe h (w ∷ words) = (h, after_safe h words)
 
   unfinished_safe : (f : Bytes) (k : ArgKind) (e : ArgDisposition) → Gives k → AllByRecursion IsSafe (unfinished f k e).items
   unfinished_safe f k Separated g = tt
@@ -203,7 +203,7 @@ module _ (d : Bool) (t : List (Entry ArgKind)) where
   step_safe : (word next : Bytes) (words : List Bytes) (s : Start ArgKind) → first_word d t word ≡ s → StartsOf word s → AllByRecursion IsSafe (reading d t (next ∷ words)).items → AllByRecursion IsSafe (reading d t words).items → AllByRecursion IsSafe (from_first s next words (reading d t (next ∷ words)) (reading d t words)).items
   step_safe word next words (whole a) h of one two = (item_safe word a h of, one)
   step_safe word next words (awaits f k e) h of one two = (of, two)
-  step_safe word next words ends h of one two = behind_safe of (next ∷ words)
+  step_safe word next words ends h of one two = after_safe of (next ∷ words)
 
   reading_safe : (words : List Bytes) → AllByRecursion IsSafe (reading d t words).items
   reading_safe [] = tt
@@ -224,11 +224,11 @@ module _ (d : Bool) (t : List (Entry ArgKind)) where
   table_gives (unknown w ∷ items) all h = table_gives items all.1 h
   table_gives (flag f k ∷ items) all h = either_given k items (gives_input k) refl all.0 (table_gives items all.1) h
   table_gives (valued f k v e ∷ items) all h = either_given k items (gives_input k) refl all.0 (table_gives items all.1) h
-  table_gives (behind_dashes w ∷ items) all h = table_gives items all.1 h
+  table_gives (after_dashes w ∷ items) all h = table_gives items all.1 h
 
   -- and where none did, each input can be placed where it's written
   abbrev IsSafeInput : Input → Type 0
-  IsSafeInput i = IsSafeBy d t i.behind_dashes i.word
+  IsSafeInput i = IsSafeBy d t i.after_dashes i.word
 
   given_safe : (k : ArgKind) (v : Bytes) (items : List (Item ArgKind)) (s : Bool) → (s || is_given items) ≡ false → (is_given items ≡ false → AllByRecursion IsSafeInput (flat_map input_in items)) → AllByRecursion IsSafeInput (option_to_list (cond s (Some (input_at v false)) None) ++ flat_map input_in items)
   given_safe k v items true h rest = cc
@@ -240,7 +240,7 @@ module _ (d : Bool) (t : List (Entry ArgKind)) where
   inputs_safe (unknown w ∷ items) all h = inputs_safe items all.1 h
   inputs_safe (flag f k ∷ items) all h = given_safe k [] items (gives_input k) h (inputs_safe items all.1)
   inputs_safe (valued f k v e ∷ items) all h = given_safe k v items (gives_input k) h (inputs_safe items all.1)
-  inputs_safe (behind_dashes w ∷ items) all h = (inl (refl, all.0), inputs_safe items all.1 h)
+  inputs_safe (after_dashes w ∷ items) all h = (inl (refl, all.0), inputs_safe items all.1 h)
 
 pub input_safe : ((kind : CCompilerKind) → Has gives_input (entries_of kind) → kind ≡ Msvc) → (kind : CCompilerKind) (words : List Bytes) → HasSafeInputIn kind words (parse_of kind words)
 input_safe msvc_gives kind words p h = by (is_given (ends_options kind) (entries_of kind) (reading_of kind words).items) refl

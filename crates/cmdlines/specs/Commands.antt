@@ -4,7 +4,7 @@ use Rattle.std.specs.Option.{option_map, option_to_list}
 use Rattle.base_files.specs.Bytes.{Bytes}
 use Rattle.base_files.specs.Path.{with_extension}
 use Rattle.cmdlines_base.specs.Printing.{normal}
-use Rattle.cmdlines_base.specs.Reading.{Item, raw, flag, behind_dashes}
+use Rattle.cmdlines_base.specs.Reading.{Item, raw, flag, after_dashes}
 use Rattle.cmdlines_base.specs.declared.command.ArtifactDescriptor.{ArtifactDescriptor}
 use Rattle.cmdlines_tables.specs.OwnWords.{option_words, option_item, language_words, language_items, output_words, output_item, color_word, color_item, writes_dependencies}
 use Rattle.cmdlines_tables.specs.Tables.{reading_of}
@@ -39,13 +39,13 @@ abbrev pub front_items : Bool → Bytes → List (Item ArgKind)
 front_items false input = raw input ∷ []
 front_items true input = []
 
-abbrev pub behind_words : Bool → Bytes → List Bytes
-behind_words false input = []
-behind_words true input = codes "--" ∷ input ∷ []
+abbrev pub after_words : Bool → Bytes → List Bytes
+after_words false input = []
+after_words true input = codes "--" ∷ input ∷ []
 
-abbrev pub behind_items : Bool → Bytes → List (Item ArgKind)
-behind_items false input = []
-behind_items true input = behind_dashes input ∷ []
+abbrev pub after_items : Bool → Bytes → List (Item ArgKind)
+after_items false input = []
+after_items true input = after_dashes input ∷ []
 
 -- messages are to be coloured, where no option says whether
 abbrev pub color_words : CCompilerKind → Bool → List Bytes
@@ -94,7 +94,7 @@ compile_words kind p path =
     ++ p.unhashed_args
     ++ p.common_args
     ++ p.arch_args
-    ++ behind_words p.double_dash_input p.input
+    ++ after_words p.double_dash_input p.input
 
 abbrev pub compile_items : CCompilerKind → ParsedArguments → Bytes → List (Item ArgKind) → List (Item ArgKind)
 compile_items kind p path items =
@@ -107,7 +107,7 @@ compile_items kind p path items =
     ++ wanted lists.Unhashed items
     ++ wanted lists.Common items
     ++ wanted lists.Arch items
-    ++ behind_items p.double_dash_input p.input
+    ++ after_items p.double_dash_input p.input
 
 -- The preprocess command: the language, the preprocessing flag and the input, and then the wanted options, with what dependency options lack.
 abbrev pub preprocess_words : CCompilerKind → ParsedArguments → List Bytes
@@ -120,7 +120,7 @@ preprocess_words kind p =
     ++ added_words kind p.dependencies (object_path p)
     ++ p.common_args
     ++ p.arch_args
-    ++ behind_words p.double_dash_input p.input
+    ++ after_words p.double_dash_input p.input
 
 abbrev pub preprocess_items : CCompilerKind → ParsedArguments → List (Item ArgKind) → List (Item ArgKind)
 preprocess_items kind p items =
@@ -132,7 +132,7 @@ preprocess_items kind p items =
     ++ added_items kind p.dependencies (object_path p)
     ++ wanted lists.Common items
     ++ wanted lists.Arch items
-    ++ behind_items p.double_dash_input p.input
+    ++ after_items p.double_dash_input p.input
 
 -- A command's words are read as these items, and nothing is cut short. Where a value may be joined or separate, it may be either.
 pub record ReadsAs (kind : CCompilerKind) (command : List Bytes) (expected : List (Item ArgKind)) : Type 0 where

@@ -94,7 +94,7 @@ outputs_at (Some messages) path = artifact_at diagnostics_name messages ∷ arti
 abbrev pub parsed_from : Facts → Lists → Input → Language → Bytes → ParsedArguments
 parsed_from f l input language path = record {
   input = input.word;
-  double_dash_input = input.behind_dashes;
+  double_dash_input = input.after_dashes;
   language = language;
   outputs = outputs_at f.diagnostics path;
   preprocessor_args = l.preprocessor;
@@ -153,7 +153,7 @@ parse_of kind words = decision_by kind (entries_of kind) words
 
 -- An input can be placed where it's written: after double dashes that end the options, or as a word that is loose.
 abbrev pub IsSafeBy : Bool → List (Entry ArgKind) → Bool → Bytes → Type 0
-IsSafeBy dashes table behind input = ((behind ≡ true) × (dashes ≡ true)) ⊎ ((behind ≡ false) × (first_word dashes table input ≡ whole (raw input)))
+IsSafeBy dashes table after input = ((after ≡ true) × (dashes ≡ true)) ⊎ ((after ≡ false) × (first_word dashes table input ≡ whole (raw input)))
 
 abbrev pub HasSafeInput : CCompilerKind → ParsedArguments → Type 0
 HasSafeInput kind p = IsSafeBy (ends_options kind) (entries_of kind) p.double_dash_input p.input

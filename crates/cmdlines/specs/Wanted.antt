@@ -6,8 +6,8 @@ use Rattle.std.specs.Str.{bytes_eq}
 use Rattle.base_files.specs.Bytes.{Bytes}
 use Rattle.cmdlines_base.specs.Choices.{later, sooner, when}
 use Rattle.cmdlines_base.specs.Printing.{is_empty_j, words_of}
-use Rattle.cmdlines_base.specs.Reading.{Item, raw, unknown, flag, valued, behind_dashes}
-use Rattle.cmdlines_base.specs.Table.{Entry, behind}
+use Rattle.cmdlines_base.specs.Reading.{Item, raw, unknown, flag, valued, after_dashes}
+use Rattle.cmdlines_base.specs.Table.{Entry, after}
 use Rattle.cmdlines_tables.specs.Kinds.{list_of, is_same_list, blocks_preprocessor_cache, is_too_hard, is_front_end, is_compile, is_output, is_arch, is_diagnostics, is_extra_file, asks_dependencies, is_dependency_path, is_dependency_target, gives_input}
 use Rattle.cmdlines_tables.specs.CompilerFacts.{spelling_of}
 use Rattle.cmdlines_tables.specs.declared.compiler.CCompilerKind.{CCompilerKind}
@@ -46,7 +46,7 @@ list_for (raw w) = lists.Nowhere
 list_for (unknown w) = lists.Common
 list_for (flag f k) = list_of k
 list_for (valued f k v d) = list_of k
-list_for (behind_dashes w) = lists.Nowhere
+list_for (after_dashes w) = lists.Nowhere
 
 -- The wanted options of a list.
 abbrev pub is_wanted : OptionList → Item ArgKind → Bool
@@ -61,7 +61,7 @@ wanted_words list items = words_of (wanted list items)
 
 -- An input, and whether it comes after double dashes that end the options.
 abbrev pub input_at : Bytes → Bool → Input
-input_at word seen = record { word = word; behind_dashes = seen }
+input_at word seen = record { word = word; after_dashes = seen }
 
 -- an option can give it
 abbrev pub input_given : ArgKind → Bytes → List Input
@@ -72,7 +72,7 @@ input_in (raw w) = input_at w false ∷ []
 input_in (unknown w) = []
 input_in (flag f k) = input_given k []
 input_in (valued f k v d) = input_given k v
-input_in (behind_dashes w) = input_at w true ∷ []
+input_in (after_dashes w) = input_at w true ∷ []
 
 -- the word of an option of a kind that passes the test
 abbrev pub word_in : (ArgKind → Bool) → Item ArgKind → Option Bytes
@@ -125,7 +125,7 @@ blocker_in item = when (has_kind blocks_preprocessor_cache item) (flag_of item)
 
 -- Options that are too hard: those of that kind, and what is passed to Clang's front end about modules and precompiled headers.
 abbrev pub is_hard_word : Bytes → Bool
-is_hard_word word = bytes_eq word (codes "-load") || bytes_eq word (codes "-include-pch") || bytes_eq word (codes "-emit-pch") || is_some (behind (codes "-fmodule") word)
+is_hard_word word = bytes_eq word (codes "-load") || bytes_eq word (codes "-include-pch") || bytes_eq word (codes "-emit-pch") || is_some (after (codes "-fmodule") word)
 
 -- and, for Msvc, an output that is a folder: its name ends with a slash (47) or a backslash (92)
 abbrev pub names_folder : Bytes → Bool

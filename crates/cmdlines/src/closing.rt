@@ -228,7 +228,7 @@ fn with_language(
     };
     Ok(CompilerArguments::Ok(ParsedArguments {
         input: input.word,
-        double_dash_input: input.behind_dashes,
+        double_dash_input: input.after_dashes,
         language,
         outputs,
         preprocessor_args: lists.preprocessor,

@@ -4,7 +4,7 @@ ghost use Rattle.std.specs.Prelude.{◌≡◌, ◌↔◌, ◌∷◌, ◌++◌, [
 ghost use Rattle.std.specs.Option.{option_copied};
 ghost use Rattle.cmdlines_tables.specs.Languages.{language_option};
 ghost use Rattle.cmdlines_tables.specs.OwnWords.{named_words, language_words, output_words};
-ghost use Rattle.cmdlines.specs.Commands.{object_path, front_words, behind_words, color_words, added_words, compile_words, preprocess_words, output_path};
+ghost use Rattle.cmdlines.specs.Commands.{object_path, front_words, after_words, color_words, added_words, compile_words, preprocess_words, output_path};
 ghost use Rattle.cmdlines_tables.specs.Small.{command_at};
 ghost use Rattle.cmdlines.specs.ReadBack.{ReadsAsCompile, ReadsAsPreprocess};
 
@@ -121,13 +121,13 @@ fn push_front(words: &mut Listed<OsBytes>, parsed: &ParsedArguments) -> Result<(
 }
 
 /// Adds the input after double dashes, where it was after them.
-fn push_behind(
+fn push_after(
     alloc: Global,
     words: &mut Listed<OsBytes>,
     parsed: &ParsedArguments,
 ) -> Result<(), AllocError>
     ensures { OnOk result
-        (words.new ≡ words.old ++ behind_words parsed.now.double_dash_input parsed.now.input) }
+        (words.new ≡ words.old ++ after_words parsed.now.double_dash_input parsed.now.input) }
 {
     if parsed.double_dash_input {
         push_word(alloc, words, b"--")?;
@@ -203,7 +203,7 @@ fn compile_words(
     push_all(&mut words, &parsed.unhashed_args)?;
     push_all(&mut words, &parsed.common_args)?;
     push_all(&mut words, &parsed.arch_args)?;
-    push_behind(alloc, &mut words, parsed)?;
+    push_after(alloc, &mut words, parsed)?;
     Ok(words)
 }
 
@@ -224,7 +224,7 @@ fn preprocess_words(
     push_added(alloc, &mut words, kind, parsed)?;
     push_all(&mut words, &parsed.common_args)?;
     push_all(&mut words, &parsed.arch_args)?;
-    push_behind(alloc, &mut words, parsed)?;
+    push_after(alloc, &mut words, parsed)?;
     Ok(words)
 }
 

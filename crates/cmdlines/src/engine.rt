@@ -37,10 +37,10 @@ fn names_folder(kind: CCompilerKind, word: &[u8]) -> bool
 
 /// The flag of an option that is too hard for that compiler.
 fn too_hard_flag(kind: CCompilerKind, argument: &Argument<ArgData>) -> Option<&'static str>
-    ensures { (behind : Bool)
-        → MatchOption result (is_hard kind (placed behind argument.now) ≡ false)
-        (λ flag. (is_hard kind (placed behind argument.now) ≡ true)
-        × (flag.now ≡ flag_of (placed behind argument.now))) }
+    ensures { (after : Bool)
+        → MatchOption result (is_hard kind (placed after argument.now) ≡ false)
+        (λ flag. (is_hard kind (placed after argument.now) ≡ true)
+        × (flag.now ≡ flag_of (placed after argument.now))) }
 {
     let (flag, option, word) = match argument {
         Argument::Raw(_) | Argument::UnknownFlag(_) => return None,

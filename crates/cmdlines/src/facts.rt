@@ -64,10 +64,10 @@ impl Facts {
         argument: &Argument<ArgData>,
     ) -> Result<(), AllocError>
         ensures { OnOk result
-            ((behind : Bool)
+            ((after : Bool)
             → self.new
             ≡ facts_with (all_entries (S.tables table.now)) self.old
-            (placed behind argument.now ∷ [])) }
+            (placed after argument.now ∷ [])) }
     {
         if is_empty_value(table, argument) {
             self.empty_value = true;
@@ -164,8 +164,8 @@ fn color_named(word: &[u8]) -> ColorMode
 
 /// Whether an option whose value may be joined or separate was read with an empty value.
 fn is_empty_value<S: SearchableArgInfo<ArgData>>(table: &S, argument: &Argument<ArgData>) -> bool
-    ensures { (behind : Bool)
-        → result ≡ is_empty_j (all_entries (S.tables table.now)) (placed behind argument.now) }
+    ensures { (after : Bool)
+        → result ≡ is_empty_j (all_entries (S.tables table.now)) (placed after argument.now) }
 {
     let Argument::WithValue(flag, data, _) = argument else {
         return false;

@@ -1,7 +1,7 @@
 //! The lists of a request, filled argument after argument.
 
 ghost use Rattle.std.specs.Prelude.{◌≡◌, ◌++◌, ◌∷◌, [], OnOk};
-ghost use Rattle.cmdlines_base.specs.Printing.{wanted_behind};
+ghost use Rattle.cmdlines_base.specs.Printing.{wanted_after};
 ghost use Rattle.cmdlines_base.specs.Pieces.{argument_words};
 ghost use Rattle.cmdlines_tables.specs.Values.{placed, word_in};
 ghost use Rattle.cmdlines.specs.Collecting.{no_lists, lists_with};
@@ -18,7 +18,7 @@ use std::alloc::{AllocError, Global};
 pub struct Input {
     pub word: OsBytes,
     /// It comes after `--`.
-    pub behind_dashes: bool,
+    pub after_dashes: bool,
 }
 
 /// The lists of a request.
@@ -57,15 +57,12 @@ impl Lists {
         &mut self,
         alloc: Global,
         argument: Argument<ArgData>,
-        behind_dashes: bool,
+        after_dashes: bool,
     ) -> Result<(), AllocError>
-        ensures { OnOk result (self.new ≡ lists_with self.old (placed behind_dashes argument ∷ [])) }
+        ensures { OnOk result (self.new ≡ lists_with self.old (placed after_dashes argument ∷ [])) }
     {
         match argument {
-            Argument::Raw(word) => self.inputs.push(Input {
-                word,
-                behind_dashes,
-            }),
+            Argument::Raw(word) => self.inputs.push(Input { word, after_dashes }),
             Argument::UnknownFlag(word) => self.common.push(word),
             Argument::Flag(flag, data) => {
                 let kind = data.kind();
@@ -76,7 +73,7 @@ impl Lists {
                 let kind = data.kind();
                 self.take_word(alloc, kind, data.word())?;
                 let option = Argument::WithValue(flag, data, disposition);
-                self.take_option(alloc, kind.list(), &option.normalize(wanted_behind(flag)))
+                self.take_option(alloc, kind.list(), &option.normalize(wanted_after(flag)))
             }
         }
     }
@@ -88,7 +85,7 @@ impl Lists {
         match kind {
             ArgKind::InputC | ArgKind::InputCxx => self.inputs.push(Input {
                 word: OsBytes::from_slice(alloc, word)?,
-                behind_dashes: false,
+                after_dashes: false,
             }),
             ArgKind::Arch => self.architectures.push(OsBytes::from_slice(alloc, word)?),
             ArgKind::ExtraHashFile => self.extra_files.push(OsBytes::from_slice(alloc, word)?),
@@ -118,8 +115,8 @@ impl Lists {
 }
 
 /// How the value of that flag is written: joined where the flag has two bytes, else apart.
-fn wanted_behind(flag: &str) -> NormalizedDisposition
-    ensures { result ≡ wanted_behind flag.now }
+fn wanted_after(flag: &str) -> NormalizedDisposition
+    ensures { result ≡ wanted_after flag.now }
 {
     if flag.len() == 2 {
         NormalizedDisposition::Concatenated

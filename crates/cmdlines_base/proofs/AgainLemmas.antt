@@ -9,12 +9,12 @@ use Rattle.std.specs.Cmp.{first_so}
 use Rattle.std.specs.List.{AllByRecursion}
 use Rattle.cmdlines_base.specs.declared.argument.ArgDisposition.{ArgDisposition}
 use Rattle.cmdlines_base.specs.declared.argument.ArgDisposition.TheVariants.{Separated, CanBeConcatenated, CanBeSeparated, Concatenated}
-use Rattle.cmdlines_base.specs.Table.{Entry, behind, may_follow, joined_by, delimiter_allows, Fits, longest_fit, NoLonger}
-use Rattle.cmdlines_base.specs.Reading.{Item, raw, unknown, flag, valued, Start, behind_dashes, is_behind, is_double_dash, whole, awaits, ends, loose, value_in, start_as, start_either, first_by, first_word, reading, before, from_last, from_first}
+use Rattle.cmdlines_base.specs.Table.{Entry, after, may_follow, joined_by, delimiter_allows, Fits, longest_fit, NoLonger}
+use Rattle.cmdlines_base.specs.Reading.{Item, raw, unknown, flag, valued, Start, after_dashes, is_after, is_double_dash, whole, awaits, ends, loose, value_in, start_as, start_either, first_by, first_word, reading, before, from_last, from_first}
 use Rattle.cmdlines_base.specs.Printing.{is_j, is_empty_j, either_way, printed, joined, normal, words_of}
 use Rattle.cmdlines_base.specs.Again.{IsClear, lets_dashes, ReadsAgain, ReadsTogether, AllReadAgain}
 use Rattle.cmdlines_base.proofs.ReadingLemmas.{reading-alone, reading-with_value}
-use Rattle.cmdlines_base.proofs.TableLemmas.{IsLongestOf, IsLongestOf-longest_fit, behind-append, Unfit}
+use Rattle.cmdlines_base.proofs.TableLemmas.{IsLongestOf, IsLongestOf-longest_fit, after-append, Unfit}
 
 -- two fronts of one word, the second no shorter: it goes on from the first
 pub front_longer : (a b r s : List ℕ) → a ++ r ≡ b ++ s → length a ≤ length b → (more : List ℕ) × (b ≡ a ++ more)
@@ -80,7 +80,7 @@ module _ {K : Type 0} (table : List (Entry K)) (clear : IsClear table) (dashes :
 
   -- what a first word makes reads again, unless it is an empty value that may be joined or separate
   abbrev ReadsStart : Start K → Type 0
-  ReadsStart (whole a) = ((is_behind a && dashes) || is_empty_j table a) ≡ false → ReadsAgain dashes table a
+  ReadsStart (whole a) = ((is_after a && dashes) || is_empty_j table a) ≡ false → ReadsAgain dashes table a
   ReadsStart ends = dashes ≡ true
   ReadsStart (awaits f k d) = ((v : List ℕ) → is_empty_j table (valued f k v d) ≡ false → ReadsAgain dashes table (valued f k v d)) × (option_map_or is_j (longest_fit table f) false ≡ either_way d)
 
@@ -167,8 +167,8 @@ module _ {K : Type 0} (table : List (Entry K)) (clear : IsClear table) (dashes :
   start_again f k (Some (CanBeConcatenated d)) r flagged here on j may = either_again f k d flagged (λ x xs two a. on x xs two refl a) j r
   start_again f k (Some (CanBeSeparated d)) r flagged here on j may = either_again f k d flagged (λ x xs two a. on x xs two refl a) j r
 
-  behind-self : (f : List ℕ) → behind f f ≡ Some []
-  behind-self f = ap (λ w. behind f w) (sym (append-nil f)) ∙ behind-append f []
+  after-self : (f : List ℕ) → after f f ≡ Some []
+  after-self f = ap (λ w. after f w) (sym (append-nil f)) ∙ after-append f []
 
   -- a word that an entry fits doesn't end the options
   goes_on : (word : List ℕ) (e : Entry K) → longest_fit table word ≡ Some e → (dashes && is_double_dash word) ≡ false
@@ -183,7 +183,7 @@ module _ {K : Type 0} (table : List (Entry K)) (clear : IsClear table) (dashes :
           let bad : false ≡ true = sym (ap (λ o. not (is_some o)) some) ∙ l in
           absurd (cc)
 
-  first-of : (e : Entry K) (word r : List ℕ) → longest_fit table word ≡ Some e → behind e.flag word ≡ Some r → first_word dashes table word ≡ start_as e.flag e.kind e.takes r
+  first-of : (e : Entry K) (word r : List ℕ) → longest_fit table word ≡ Some e → after e.flag word ≡ Some r → first_word dashes table word ≡ start_as e.flag e.kind e.takes r
   first-of e word r found b = ap (λ s. cond s ends (first_by (longest_fit table word) word)) (goes_on word e found) ∙ ap (λ o. first_by o word) found ∙ ap (λ o. start_as e.flag e.kind e.takes (unwrap_or o [])) b
 
   -- each word
@@ -201,20 +201,20 @@ module _ {K : Type 0} (table : List (Entry K)) (clear : IsClear table) (dashes :
       by (Some e) q h =
           let r : List ℕ = h.fits.0 in
           let is : word ≡ e.flag ++ r = h.fits.1 in
-          let stands : behind e.flag word ≡ Some r = ap (λ w. behind e.flag w) is ∙ behind-append e.flag r in
+          let stands : after e.flag word ≡ Some r = ap (λ w. after e.flag w) is ∙ after-append e.flag r in
           let first : first_word dashes table word ≡ start_as e.flag e.kind e.takes r = first-of e word r q stands in
           let found : longest_fit table e.flag ≡ Some e = flag_again e h.among in
-          let flagged : first_word dashes table e.flag ≡ start_as e.flag e.kind e.takes [] = first-of e e.flag [] found (behind-self e.flag) in
+          let flagged : first_word dashes table e.flag ≡ start_as e.flag e.kind e.takes [] = first-of e e.flag [] found (after-self e.flag) in
           subst ReadsStart (sym first)
           (start_again e.flag e.kind e.takes r flagged (ap (λ w. first_word dashes table w) (sym is) ∙ first)
-          (λ x xs two j a. first-of e (e.flag ++ x ∷ xs) (x ∷ xs) (joined_again e (x ∷ xs) h.among j two a) (behind-append e.flag (x ∷ xs)))
+          (λ x xs two j a. first-of e (e.flag ++ x ∷ xs) (x ∷ xs) (joined_again e (x ∷ xs) h.among j two a) (after-append e.flag (x ∷ xs)))
           (ap (λ o. option_map_or is_j o false) found) h.fits.2)
 
   abbrev Again : Item K → Type 0
-  Again a = ((is_behind a && dashes) || is_empty_j table a) ≡ false → ReadsAgain dashes table a
+  Again a = ((is_after a && dashes) || is_empty_j table a) ≡ false → ReadsAgain dashes table a
 
   -- what comes after double dashes needn't
-  none_again : dashes ≡ true → (words : List (List ℕ)) → AllByRecursion Again (map behind_dashes words)
+  none_again : dashes ≡ true → (words : List (List ℕ)) → AllByRecursion Again (map after_dashes words)
   none_again ended [] = tt
   none_again ended (w ∷ ws) = ((λ full. let bad : true ≡ false = sym (ap (λ d. d || false) ended) ∙ full in absurd (cc)), none_again ended ws)
 

@@ -5,10 +5,10 @@ use Rattle.std.proofs.lemmas.List.Elements.{Contains-append_cases, Contains-push
 use Rattle.std.proofs.lemmas.Bool.Decides.{Decides-eqb}
 use Rattle.std.specs.Cmp.{first_so, second_so}
 use Rattle.std.specs.List.{list_all}
-use Rattle.cmdlines_base.specs.Table.{Entry, behind}
+use Rattle.cmdlines_base.specs.Table.{Entry, after}
 use Rattle.cmdlines_base.specs.Printing.{is_j}
 use Rattle.cmdlines_base.specs.Again.{IsClear, is_clear, is_free, free_by}
-use Rattle.cmdlines_base.proofs.TableLemmas.{behind-append}
+use Rattle.cmdlines_base.proofs.TableLemmas.{after-append}
 
 -- an element of a list is its head, or among the rest
 member_cases : {X : Type 0} (x : X) (xs : List X) (y : X) → Contains (x ∷ xs) y → (x ≡ y) ⊎ Contains xs y
@@ -50,13 +50,13 @@ clear_from_test {K} t h = record {
     one : (d e : Entry K) → d.flag ≡ e.flag → ((d ≡ e) ⊎ (is_free e d ≡ true)) → d ≡ e
     one d e same (inl p) = p
     one d e same (inr q) =
-        let b : behind e.flag d.flag ≡ Some [] = ap (λ w. behind e.flag w) (same ∙ sym (append-nil e.flag)) ∙ behind-append e.flag [] in
+        let b : after e.flag d.flag ≡ Some [] = ap (λ w. after e.flag w) (same ∙ sym (append-nil e.flag)) ∙ after-append e.flag [] in
         let bad : false ≡ true = sym (ap (free_by (is_j e && (length e.flag == 2))) b) ∙ q in cc
 
     alone : (d e : Entry K) (more : List ℕ) → is_j e ≡ true → length e.flag ≡ 2 → d.flag ≡ e.flag ++ more → ((d ≡ e) ⊎ (is_free e d ≡ true)) → more ≡ []
     alone d e more j two on (inl p) = nothing_more e.flag more (ap (λ (y : Entry K). y.flag) (sym p) ∙ on)
     alone d e [] j two on (inr q) = refl
     alone d e (x ∷ xs) j two on (inr q) =
-        let b : behind e.flag d.flag ≡ Some (x ∷ xs) = ap (λ w. behind e.flag w) on ∙ behind-append e.flag (x ∷ xs) in
+        let b : after e.flag d.flag ≡ Some (x ∷ xs) = ap (λ w. after e.flag w) on ∙ after-append e.flag (x ∷ xs) in
         let is : (is_j e && (length e.flag == 2)) ≡ true = ap (λ s. s && (length e.flag == 2)) j ∙ (Decides-eqb (length e.flag) 2).1 two in
         let bad : false ≡ true = sym (ap not is) ∙ sym (ap (free_by (is_j e && (length e.flag == 2))) b) ∙ q in cc

@@ -7,9 +7,9 @@ use Rattle.std.proofs.lemmas.Option.{get_or_from_slice_get}
 use Rattle.std.specs.List.{AllWithin, slice_get}
 use Rattle.std.specs.List.Sorted.{IsPartitionPoint, IsNonDecreasingBy}
 use Rattle.cmdlines_base.specs.declared.table.ArgInfo.{ArgInfo}
-use Rattle.cmdlines_base.specs.Table.{behind, longer, longest_fit, Entry, entry_of, entries_of, fits, may_follow, has_ascii, is_table, rises_to}
+use Rattle.cmdlines_base.specs.Table.{after, longer, longest_fit, Entry, entry_of, entries_of, fits, may_follow, has_ascii, is_table, rises_to}
 use Rattle.cmdlines_base.specs.Nodes.{Begins, GoesOn, HasByte, IsNode, IsPicked, LacksByte, byte_at}
-use Rattle.cmdlines_base.proofs.TableLemmas.{behind-append, longest_fit-append, longer-none}
+use Rattle.cmdlines_base.proofs.TableLemmas.{after-append, longest_fit-append, longer-none}
 use Rattle.std.specs.Option.{option_map_or}
 use Rattle.cmdlines_base.specs.Forks.{going_on}
 use Rattle.std.specs.Ordering.{nat_cmp, is_lt, ordering_then}
@@ -40,7 +40,7 @@ stretches depth byte xs start count low mid high =
       whole = ap entries_of (sym parts) ∙ map-append entry_of (take start xs) (take count (drop start xs) ++ drop count (drop start xs)) ∙ ap (λ ys. entries_of (take start xs) ++ ys) (map-append entry_of (take count (drop start xs)) (drop count (drop start xs)));
       before = All-map (LacksByte depth byte) entry_of (take start xs) low;
       have = All-map (HasByte depth byte) entry_of (take count (drop start xs)) mid;
-      behind = All-map (LacksByte depth byte) entry_of (drop count (drop start xs)) high;
+      after = All-map (LacksByte depth byte) entry_of (drop count (drop start xs)) high;
     }
 
 module _ {T K : Type 0} (depth byte : ℕ) (xs : List (ArgInfo T K)) (start end : ℕ) (rest : List (ArgInfo T K)) where
@@ -64,7 +64,7 @@ module _ {T K : Type 0} (depth byte : ℕ) (xs : List (ArgInfo T K)) (start end 
 
 -- of entries of which none has that byte nothing is picked
 pub none_picked : {K : Type 0} (d byte : ℕ) (es : List (Entry K)) → All (LacksByte d byte) es → IsPicked d byte es []
-none_picked d byte es lacks = record { front = es; back = []; whole = sym (append-nil es); before = lacks; have = All-nil (HasByte d byte); behind = All-nil (LacksByte d byte) }
+none_picked d byte es lacks = record { front = es; back = []; whole = sym (append-nil es); before = lacks; have = All-nil (HasByte d byte); after = All-nil (LacksByte d byte) }
 
 pub nothing_picked : {T K : Type 0} (d byte : ℕ) (xs : List (ArgInfo T K)) → slice_get xs 0 ≡ None → IsPicked d byte (entries_of xs) (entries_of xs)
 nothing_picked d byte [] h = none_picked d byte [] (All-nil (LacksByte d byte))
@@ -98,14 +98,14 @@ high_tells d byte xs b rising two high = none_picked d byte (entries_of xs) (All
 
 -- entries of which all have that byte are what is picked of them
 pub whole_picked : {K : Type 0} (d byte : ℕ) (es : List (Entry K)) → All (HasByte d byte) es → IsPicked d byte es es
-whole_picked d byte es have = record { front = []; back = []; whole = sym (append-nil es); before = All-nil (LacksByte d byte); have = have; behind = All-nil (LacksByte d byte) }
+whole_picked d byte es have = record { front = []; back = []; whole = sym (append-nil es); before = All-nil (LacksByte d byte); have = have; after = All-nil (LacksByte d byte) }
 
 pub drop_whole : {X : Type 0} (i : ℕ) (xs : List X) → take (length xs - i) (drop i xs) ≡ drop i xs
 drop_whole i xs = ap (λ n. take n (drop i xs)) (sym (length-drop i xs)) ∙ take-length (drop i xs)
 
 -- a flag that begins the word: what comes after it is what is left of the word
-begins_by : (flag word : List ℕ) → take (length flag) word ≡ flag → behind flag word ≡ Some (drop (length flag) word)
-begins_by flag word same = ap (λ w. behind flag w) (sym (take-append-drop (length flag) word) ∙ ap (λ l. l ++ drop (length flag) word) same) ∙ behind-append flag (drop (length flag) word)
+begins_by : (flag word : List ℕ) → take (length flag) word ≡ flag → after flag word ≡ Some (drop (length flag) word)
+begins_by flag word same = ap (λ w. after flag w) (sym (take-append-drop (length flag) word) ∙ ap (λ l. l ++ drop (length flag) word) same) ∙ after-append flag (drop (length flag) word)
 
 -- so it fits where that may follow
 pub ended_fits : {K : Type 0} (d : ℕ) (word : List ℕ) (e : Entry K) → Begins d word e → length e.flag ≤ d → fits e word ≡ may_follow e (drop d word)
@@ -118,17 +118,17 @@ pub ended_within : {K : Type 0} (d : ℕ) (word : List ℕ) (e : Entry K) → Be
 ended_within d word e b = omega (arith, b.long, ap (λ (l : List ℕ). length l) b.alike, length-take d e.flag, length-take d word)
 
 -- a longer flag doesn't begin a word
-behind-longer : (flag word : List ℕ) → length word < length flag → behind flag word ≡ None
-behind-longer [] word lt = absurd (omega (arith, lt))
-behind-longer (b ∷ flag) [] lt = refl
-behind-longer (b ∷ flag) (c ∷ word) lt = grind (arith, behind-longer flag word (omega (arith, lt)))
+after-longer : (flag word : List ℕ) → length word < length flag → after flag word ≡ None
+after-longer [] word lt = absurd (omega (arith, lt))
+after-longer (b ∷ flag) [] lt = refl
+after-longer (b ∷ flag) (c ∷ word) lt = grind (arith, after-longer flag word (omega (arith, lt)))
 
 -- nor does one that goes on with another byte
-behind-other : (d : ℕ) (flag word : List ℕ) → d < length flag → d < length word → take d flag ≡ take d word → get_or flag d 0 ≢ get_or word d 0 → behind flag word ≡ None
-behind-other d [] word one two same other = absurd (omega (arith, one))
-behind-other d (b ∷ flag) [] one two same other = refl
-behind-other zero (b ∷ flag) (c ∷ word) one two same other = grind (arith, other)
-behind-other (suc d) (b ∷ flag) (c ∷ word) one two same other = grind (arith, ap (λ (l : List ℕ). get_or l 0 0) same, behind-other d flag word (omega (arith, one)) (omega (arith, two)) (ap (λ (l : List ℕ). drop 1 l) same) other)
+after-other : (d : ℕ) (flag word : List ℕ) → d < length flag → d < length word → take d flag ≡ take d word → get_or flag d 0 ≢ get_or word d 0 → after flag word ≡ None
+after-other d [] word one two same other = absurd (omega (arith, one))
+after-other d (b ∷ flag) [] one two same other = refl
+after-other zero (b ∷ flag) (c ∷ word) one two same other = grind (arith, other)
+after-other (suc d) (b ∷ flag) (c ∷ word) one two same other = grind (arith, ap (λ (l : List ℕ). get_or l 0 0) same, after-other d flag word (omega (arith, one)) (omega (arith, two)) (ap (λ (l : List ℕ). drop 1 l) same) other)
 
 -- one byte more is alike
 take-more : (d : ℕ) (flag word : List ℕ) → d < length flag → d < length word → take d flag ≡ take d word → get_or flag d 0 ≡ get_or word d 0 → take (d + 1) flag ≡ take (d + 1) word
@@ -181,8 +181,8 @@ both true b p q = q
 both false b p q = cc
 
 -- a table without its first entry is one
-table_behind : {K : Type 0} (e : Entry K) (es : List (Entry K)) → is_table (e ∷ es) ≡ true → is_table es ≡ true
-table_behind e es h = and_right (has_ascii e && rises_to e es) (is_table es) h
+table_after : {K : Type 0} (e : Entry K) (es : List (Entry K)) → is_table (e ∷ es) ≡ true → is_table es ≡ true
+table_after e es h = and_right (has_ascii e && rises_to e es) (is_table es) h
 
 -- the flag of its second entry is above that of the first
 table_rises : {K : Type 0} (e n : Entry K) (ns : List (Entry K)) → is_table (e ∷ n ∷ ns) ≡ true → is_lt (slice_cmp nat_cmp e.flag n.flag) ≡ true
@@ -195,7 +195,7 @@ ends_once d word e (n ∷ ns) rise begin =
     let first = All-head (Begins d word) e (n ∷ ns) begin in
     let others = All-tail (Begins d word) e (n ∷ ns) begin in
     let next = All-head (Begins d word) n ns others in
-    All-cons (GoesOn d) n ns (cmp-goes_on d e.flag n.flag next.long (first.alike ∙ sym next.alike) (table_rises e n ns rise)) (ends_once d word n ns (table_behind e (n ∷ ns) rise) others)
+    All-cons (GoesOn d) n ns (cmp-goes_on d e.flag n.flag next.long (first.alike ∙ sym next.alike) (table_rises e n ns rise)) (ends_once d word n ns (table_after e (n ∷ ns) rise) others)
 
 -- bytes after so many rise
 lowest : {K : Type 0} (d : ℕ) (word : List ℕ) (e : Entry K) (es : List (Entry K)) → is_table (e ∷ es) ≡ true → All (Begins d word) (e ∷ es) → All (GoesOn d) (e ∷ es) → All (λ f. byte_at d e ≤ byte_at d f) es
@@ -207,7 +207,7 @@ lowest d word e (n ∷ ns) rise begin on =
     let here = All-head (GoesOn d) e (n ∷ ns) on in
     let on2 = All-tail (GoesOn d) e (n ∷ ns) on in
     let step : byte_at d e ≤ byte_at d n = cmp-byte d e.flag n.flag here (All-head (GoesOn d) n ns on2) (first.alike ∙ sym next.alike) (table_rises e n ns rise) in
-    All-cons (λ f. byte_at d e ≤ byte_at d f) n ns step (All-weaker (λ f. byte_at d n ≤ byte_at d f) (λ f. byte_at d e ≤ byte_at d f) (λ f le. omega (arith, step)) ns (lowest d word n ns (table_behind e (n ∷ ns) rise) others on2))
+    All-cons (λ f. byte_at d e ≤ byte_at d f) n ns step (All-weaker (λ f. byte_at d n ≤ byte_at d f) (λ f. byte_at d e ≤ byte_at d f) (λ f le. omega (arith, step)) ns (lowest d word n ns (table_after e (n ∷ ns) rise) others on2))
 
 pub bytes_rise : {T K : Type 0} (d : ℕ) (word : List ℕ) (xs : List (ArgInfo T K)) → is_table (entries_of xs) ≡ true → All (Begins d word) (entries_of xs) → All (GoesOn d) (entries_of xs) → IsNonDecreasingBy (λ e. byte_at d (entry_of e)) xs
 bytes_rise d word [] rise begin on i j e le lt = absurd (omega (arith, lt))
@@ -215,17 +215,17 @@ bytes_rise d word (x ∷ xs) rise begin on zero zero e le lt = omega arith
 bytes_rise d word (x ∷ xs) rise begin on zero (suc j) e le lt =
     omega (arith, ap (byte_at d) (get_or-map entry_of xs j e (entry_of e) (omega (arith, lt))), All-get_or (λ f. byte_at d (entry_of x) ≤ byte_at d f) (entries_of xs) j (entry_of e) (omega (arith, lt, length-map xs entry_of)) (lowest d word (entry_of x) (entries_of xs) rise begin on))
 bytes_rise d word (x ∷ xs) rise begin on (suc i) zero e le lt = absurd (omega (arith, le))
-bytes_rise d word (x ∷ xs) rise begin on (suc i) (suc j) e le lt = bytes_rise d word xs (table_behind (entry_of x) (entries_of xs) rise) (All-tail (Begins d word) (entry_of x) (entries_of xs) begin) (All-tail (GoesOn d) (entry_of x) (entries_of xs) on) i j e (omega (arith, le)) (omega (arith, lt))
+bytes_rise d word (x ∷ xs) rise begin on (suc i) (suc j) e le lt = bytes_rise d word xs (table_after (entry_of x) (entries_of xs) rise) (All-tail (Begins d word) (entry_of x) (entries_of xs) begin) (All-tail (GoesOn d) (entry_of x) (entries_of xs) on) i j e (omega (arith, le)) (omega (arith, lt))
 
 -- a stretch of a table is one
 table_front : {K : Type 0} (es fs : List (Entry K)) → is_table (es ++ fs) ≡ true → is_table es ≡ true
 table_front [] fs h = refl
 table_front (e ∷ []) fs h = both (has_ascii e && true) true (both (has_ascii e) true (and_left (has_ascii e) (rises_to e fs) (and_left (has_ascii e && rises_to e fs) (is_table fs) h)) refl) refl
-table_front (e ∷ n ∷ ns) fs h = both (has_ascii e && rises_to e (n ∷ ns)) (is_table (n ∷ ns)) (and_left (has_ascii e && rises_to e (n ∷ ns)) (is_table (n ∷ ns ++ fs)) h) (table_front (n ∷ ns) fs (table_behind e (n ∷ ns ++ fs) h))
+table_front (e ∷ n ∷ ns) fs h = both (has_ascii e && rises_to e (n ∷ ns)) (is_table (n ∷ ns)) (and_left (has_ascii e && rises_to e (n ∷ ns)) (is_table (n ∷ ns ++ fs)) h) (table_front (n ∷ ns) fs (table_after e (n ∷ ns ++ fs) h))
 
 table_back : {K : Type 0} (es fs : List (Entry K)) → is_table (es ++ fs) ≡ true → is_table fs ≡ true
 table_back [] fs h = h
-table_back (e ∷ es) fs h = table_back es fs (table_behind e (es ++ fs) h)
+table_back (e ∷ es) fs h = table_back es fs (table_after e (es ++ fs) h)
 
 -- what holds of all and also holds of all; of the front of a list; of its back
 pub all_both : {X : Type 0} (P Q : X → Type 0) (xs : List X) → All P xs → All Q xs → All (λ x. P x × Q x) xs
@@ -247,10 +247,10 @@ unfit word (e ∷ es) h = rw (All-head (λ e. fits e word ≡ false) e es h, unf
 
 -- an entry that goes on with another byte than the word doesn't fit, nor one that goes on past the end of the word
 unfit-other : {K : Type 0} (d : ℕ) (word : List ℕ) (e : Entry K) → d < length word → Begins d word e → GoesOn d e → LacksByte d (get_or word d 0) e → fits e word ≡ false
-unfit-other d word e lt b on lacks = ap (λ r. option_map_or (may_follow e) r false) (behind-other d e.flag word on lt b.alike lacks)
+unfit-other d word e lt b on lacks = ap (λ r. option_map_or (may_follow e) r false) (after-other d e.flag word on lt b.alike lacks)
 
 unfit-longer : {K : Type 0} (d : ℕ) (word : List ℕ) (e : Entry K) → length word ≤ d → GoesOn d e → fits e word ≡ false
-unfit-longer d word e le on = ap (λ r. option_map_or (may_follow e) r false) (behind-longer e.flag word (omega (arith, le, on)))
+unfit-longer d word e le on = ap (λ r. option_map_or (may_follow e) r false) (after-longer e.flag word (omega (arith, le, on)))
 
 -- past the word's end nothing fits
 pub ended : {K : Type 0} (d : ℕ) (word : List ℕ) (es : List (Entry K)) → length word ≤ d → All (GoesOn d) es → longest_fit es word ≡ None
@@ -272,7 +272,7 @@ module _ {K : Type 0} (d : ℕ) (word : List ℕ) (es ps : List (Entry K)) (lt :
       ∙ ap (λ a. longer a (longest_fit (ps ++ p.back) word)) (none p.front (all_front Full p.front (ps ++ p.back) full) p.before)
       ∙ longer-none (longest_fit (ps ++ p.back) word)
       ∙ longest_fit-append ps p.back word
-      ∙ ap (λ b. longer (longest_fit ps word) b) (none p.back (all_back Full ps p.back (all_back Full p.front (ps ++ p.back) full)) p.behind)
+      ∙ ap (λ b. longer (longest_fit ps word) b) (none p.back (all_back Full ps p.back (all_back Full p.front (ps ++ p.back) full)) p.after)
 
   pub below_node : IsNode (d + 1) word ps
   below_node = record {
@@ -281,8 +281,8 @@ module _ {K : Type 0} (d : ℕ) (word : List ℕ) (es ps : List (Entry K)) (lt :
   }
 
 -- a node without its first entry is one
-pub node_behind : {K : Type 0} (d : ℕ) (word : List ℕ) (e : Entry K) (es : List (Entry K)) → IsNode d word (e ∷ es) → IsNode d word es
-node_behind d word e es h = record { begin = All-tail (Begins d word) e es h.begin; rise = table_behind e es h.rise }
+pub node_after : {K : Type 0} (d : ℕ) (word : List ℕ) (e : Entry K) (es : List (Entry K)) → IsNode d word (e ∷ es) → IsNode d word es
+node_after d word e es h = record { begin = All-tail (Begins d word) e es h.begin; rise = table_after e es h.rise }
 
 -- where the first entry goes on, all do
 pub all_on : {K : Type 0} (d : ℕ) (word : List ℕ) (e : Entry K) (es : List (Entry K)) → IsNode d word (e ∷ es) → d < length e.flag → All (GoesOn d) (e ∷ es)
@@ -294,7 +294,7 @@ going_on_node d word [] h = (h, All-nil (GoesOn d))
 going_on_node d word (e ∷ es) h = by (nat_le (length e.flag) d) refl
   where
     by : (s : Bool) → nat_le (length e.flag) d ≡ s → IsNode d word (cond s es (e ∷ es)) × All (GoesOn d) (cond s es (e ∷ es))
-    by true q = (node_behind d word e es h, ends_once d word e es h.rise h.begin)
+    by true q = (node_after d word e es h, ends_once d word e es h.rise h.begin)
     by false q = (h, all_on d word e es h (leb-false (length e.flag) d q))
 
 -- where the first flag of a node goes on, and the first and the last one go on as the word does, all do

@@ -59,7 +59,7 @@ module _ {K : Type 0} (d : ℕ) (word : List ℕ) where
   reach-below es ps lt node on p =
       let full = subst (All (λ e. Begins d word e × GoesOn d e)) p.whole (all_both (Begins d word) (GoesOn d) es node.begin on) in
       let front = stops p.front (all_front (λ e. Begins d word e × GoesOn d e) p.front (ps ++ p.back) full) p.before in
-      let back = stops p.back (all_back (λ e. Begins d word e × GoesOn d e) ps p.back (all_back (λ e. Begins d word e × GoesOn d e) p.front (ps ++ p.back) full)) p.behind in
+      let back = stops p.back (all_back (λ e. Begins d word e × GoesOn d e) ps p.back (all_back (λ e. Begins d word e × GoesOn d e) p.front (ps ++ p.back) full)) p.after in
       omega (arith, ap (λ fs. reach fs word) p.whole, reach-append p.front (ps ++ p.back), reach-append ps p.back, reach-stops p.front front, reach-stops p.back back)
     where
       stops : (fs : List (Entry K)) → All (λ e. Begins d word e × GoesOn d e) fs → All (LacksByte d (get_or word d 0)) fs → All Stops fs

@@ -2,7 +2,7 @@
 use Rattle.std.proofs.Common.{◌≡◌, Bool, List, [], ◌∷◌, refl, ap, sym, ◌∙◌}
 use Rattle.base_files.specs.Bytes.{Bytes}
 use Rattle.cmdlines_base.specs.Table.{Entry}
-use Rattle.cmdlines_base.specs.Reading.{Item, valued, Start, whole, awaits, ends, Reading, before, all_behind, first_word, from_last, from_first, reading, Reads, at_end, alone, with_value, lacking, options_end}
+use Rattle.cmdlines_base.specs.Reading.{Item, valued, Start, whole, awaits, ends, Reading, before, all_after, first_word, from_last, from_first, reading, Reads, at_end, alone, with_value, lacking, options_end}
 
 module _ {K : Type 0} (dashes : Bool) (table : List (Entry K)) where
   -- a word that is an item by itself, and then the others
@@ -15,7 +15,7 @@ module _ {K : Type 0} (dashes : Bool) (table : List (Entry K)) where
   reading-with_value word value f k d h words = ap (λ s. from_first s value words (reading dashes table (value ∷ words)) (reading dashes table words)) h
 
   -- the end of the options, and then loose words
-  pub reading-options_end : (word : Bytes) → first_word dashes table word ≡ ends → (words : List Bytes) → reading dashes table (word ∷ words) ≡ all_behind words
+  pub reading-options_end : (word : Bytes) → first_word dashes table word ≡ ends → (words : List Bytes) → reading dashes table (word ∷ words) ≡ all_after words
   reading-options_end word h [] = ap from_last h
   reading-options_end word h (next ∷ words) = ap (λ s. from_first s next words (reading dashes table (next ∷ words)) (reading dashes table words)) h
 

@@ -23,8 +23,8 @@ module _ (separator word text : Bytes) (same : text ≡ word) where
   pub not-split : (before : Text) → string_bytes before ≡ text → FindsText separator text None → IsSplit separator word before None
   not-split before is h = (is ∙ same, λ front back e. split_text_parts separator text None h front back (same ∙ e))
 
-  pub split-in-two : (before behind : Text) (x y : Bor Bytes) → string_bytes before ≡ x.now → string_bytes behind ≡ y.now → SplitsAroundMatch (FindsText separator) text x.now y.now → IsSplit separator word before (Some behind)
-  split-in-two before behind x y is are h =
+  pub split-in-two : (before after : Text) (x y : Bor Bytes) → string_bytes before ≡ x.now → string_bytes after ≡ y.now → SplitsAroundMatch (FindsText separator) text x.now y.now → IsSplit separator word before (Some after)
+  split-in-two before after x y is are h =
       let parts : text ≡ x.now ++ (separator ++ y.now) = split_text_parts separator text (Some (x, y)) h in
       let long : length (string_bytes before) ≡ h.0 = ap length is ∙ h.6 in
       (sym same ∙ parts ∙ rw (is, are) refl, λ front back e. subst (λ n. n ≤ length front) (sym long) (found-first separator text h.0 h.1 h.2 front back (same ∙ e)))

@@ -3,8 +3,8 @@ use Rattle.std.proofs.Common.{◌≡◌, ℕ, List, [], ◌∷◌, ◌++◌, Opt
 use Rattle.std.proofs.lemmas.List.{append-nil}
 use Rattle.std.proofs.lemmas.Bool.Decides.{Decides-eqb}
 use Rattle.base_files.specs.Bytes.{Bytes}
-use Rattle.cmdlines_base.specs.Table.{Entry, behind, may_follow, delimiter_allows, longest_fit}
-use Rattle.cmdlines_base.specs.Reading.{Item, raw, unknown, flag, valued, behind_dashes, is_behind, Start, whole, awaits, ends, before, is_double_dash, loose, value_in, start_as, start_either, first_by, first_word, from_last, reading}
+use Rattle.cmdlines_base.specs.Table.{Entry, after, may_follow, delimiter_allows, longest_fit}
+use Rattle.cmdlines_base.specs.Reading.{Item, raw, unknown, flag, valued, after_dashes, is_after, Start, whole, awaits, ends, before, is_double_dash, loose, value_in, start_as, start_either, first_by, first_word, from_last, reading}
 use Rattle.cmdlines_base.specs.Cutting.{Place, is_seen, reading_by, reading_at, past, past_dashes, taken, IsWrittenAs}
 use Rattle.cmdlines_base.specs.Values.{Values, Takes, TakesRefused, FailsToTake, Cuts, CutsRefused, FailsToCut}
 use Rattle.cmdlines_base.specs.declared.argument.ArgDisposition.{ArgDisposition}
@@ -15,7 +15,7 @@ use Rattle.cmdlines_base.specs.declared.argument_error.ArgParseError.{ArgParseEr
 use Rattle.cmdlines_base.specs.declared.argument_error.ArgParseError.TheVariants.{UnexpectedEndOfArgs, InvalidUnicode, Other, Memory}
 use Rattle.cmdlines_base.specs.declared.cutting.DoubleDashes.{DoubleDashes}
 use Rattle.cmdlines_base.specs.declared.cutting.DoubleDashes.TheVariants.{Ordinary, Awaited, Seen}
-use Rattle.cmdlines_base.proofs.TableLemmas.{IsLongestOf, IsLongestOf-longest_fit, behind-append}
+use Rattle.cmdlines_base.proofs.TableLemmas.{IsLongestOf, IsLongestOf-longest_fit, after-append}
 use Rattle.cmdlines_base.proofs.ReadingLemmas.{reading-alone, reading-with_value, reading-options_end}
 
 -- What is consumed for an item: words that spell it, before those that are left.
@@ -101,47 +101,47 @@ module _ {K : Type 0} (table : List (Entry K)) (word : Bytes) where
       by None d h = whole-consumes word (loose word) rest item left (loose-written K word) h
       by (Some e) d h =
           let r : Bytes = d.fits.0 in
-          let stands : behind e.flag word ≡ Some r = ap (behind e.flag) d.fits.1 ∙ behind-append e.flag r in
+          let stands : after e.flag word ≡ Some r = ap (after e.flag) d.fits.1 ∙ after-append e.flag r in
           let h' : taken (start_as e.flag e.kind e.takes r) rest ≡ Some (item, left) = ap (λ o. taken (start_as e.flag e.kind e.takes (unwrap_or o [])) rest) (sym stands) ∙ h in
           subst (λ (w : Bytes). Consumes (w ∷ rest) item left) (sym d.fits.1) (start-consumes e.flag e.kind e.takes r d.fits.2 rest item left h')
 
   -- what a word by its entry makes doesn't come after double dashes
-  word-before : (rest : List Bytes) (item : Item K) (left : List Bytes) → taken start rest ≡ Some (item, left) → is_behind item ≡ false
+  word-before : (rest : List Bytes) (item : Item K) (left : List Bytes) → taken start rest ≡ Some (item, left) → is_after item ≡ false
   word-before rest item left = by (longest_fit table word)
     where
-      loose-before : (w : Bytes) → is_behind {K = K} (loose w) ≡ false
+      loose-before : (w : Bytes) → is_after {K = K} (loose w) ≡ false
       loose-before [] = refl
       loose-before (b ∷ bs) = at (b == 45)
         where
-          at : (s : Bool) → is_behind {K = K} (cond s (unknown (b ∷ bs)) (raw (b ∷ bs))) ≡ false
+          at : (s : Bool) → is_after {K = K} (cond s (unknown (b ∷ bs)) (raw (b ∷ bs))) ≡ false
           at true = refl
           at false = refl
 
-      whole-before : (a : Item K) → is_behind a ≡ false → taken (whole a) rest ≡ Some (item, left) → is_behind item ≡ false
-      whole-before a is h = let parts = pair-parts _ _ h in ap is_behind (sym parts.0) ∙ is
+      whole-before : (a : Item K) → is_after a ≡ false → taken (whole a) rest ≡ Some (item, left) → is_after item ≡ false
+      whole-before a is h = let parts = pair-parts _ _ h in ap is_after (sym parts.0) ∙ is
 
-      awaits-before : (f : Bytes) (k : K) (d : ArgDisposition) (rest : List Bytes) → taken (awaits f k d) rest ≡ Some (item, left) → is_behind item ≡ false
-      awaits-before f k d (v ∷ rest) h = let parts = pair-parts _ _ h in ap is_behind (sym parts.0)
-      awaits-before f k (CanBeConcatenated None) [] h = let parts = pair-parts _ _ h in ap is_behind (sym parts.0)
+      awaits-before : (f : Bytes) (k : K) (d : ArgDisposition) (rest : List Bytes) → taken (awaits f k d) rest ≡ Some (item, left) → is_after item ≡ false
+      awaits-before f k d (v ∷ rest) h = let parts = pair-parts _ _ h in ap is_after (sym parts.0)
+      awaits-before f k (CanBeConcatenated None) [] h = let parts = pair-parts _ _ h in ap is_after (sym parts.0)
       awaits-before f k (CanBeConcatenated (Some x)) [] h = cc
       awaits-before f k Separated [] h = cc
       awaits-before f k (CanBeSeparated d) [] h = cc
       awaits-before f k (Concatenated d) [] h = cc
 
-      either-before : (f : Bytes) (k : K) (d : Option ℕ) (r : Bytes) → taken (start_either f k d r) rest ≡ Some (item, left) → is_behind item ≡ false
+      either-before : (f : Bytes) (k : K) (d : Option ℕ) (r : Bytes) → taken (start_either f k d r) rest ≡ Some (item, left) → is_after item ≡ false
       either-before f k d [] h = awaits-before f k (CanBeConcatenated d) rest h
       either-before f k d (b ∷ bs) h = whole-before (valued f k (value_in d (b ∷ bs)) (CanBeSeparated d)) refl h
 
-      at : (f : Bytes) (k : K) (takes : Option ArgDisposition) (r : Bytes) → taken (start_as f k takes r) rest ≡ Some (item, left) → is_behind item ≡ false
+      at : (f : Bytes) (k : K) (takes : Option ArgDisposition) (r : Bytes) → taken (start_as f k takes r) rest ≡ Some (item, left) → is_after item ≡ false
       at f k None r h = whole-before (flag f k) refl h
       at f k (Some Separated) r h = awaits-before f k Separated rest h
       at f k (Some (Concatenated d)) r h = whole-before (valued f k (value_in d r) (Concatenated d)) refl h
       at f k (Some (CanBeConcatenated d)) r h = either-before f k d r h
       at f k (Some (CanBeSeparated d)) r h = either-before f k d r h
 
-      by : (o : Option (Entry K)) → taken (first_by o word) rest ≡ Some (item, left) → is_behind item ≡ false
+      by : (o : Option (Entry K)) → taken (first_by o word) rest ≡ Some (item, left) → is_after item ≡ false
       by None h = whole-before (loose word) (loose-before word) h
-      by (Some e) h = at e.flag e.kind e.takes (unwrap_or (behind e.flag word) []) h
+      by (Some e) h = at e.flag e.kind e.takes (unwrap_or (after e.flag word) []) h
 
   -- a word by its entry doesn't end the options
   start-goes_on : start ≡ ends → ⊥
@@ -158,7 +158,7 @@ module _ {K : Type 0} (table : List (Entry K)) (word : Bytes) where
 
       by : (o : Option (Entry K)) → first_by o word ≡ ends → ⊥
       by None h = cc
-      by (Some e) h = at e.flag e.kind e.takes (unwrap_or (behind e.flag word) []) h
+      by (Some e) h = at e.flag e.kind e.takes (unwrap_or (after e.flag word) []) h
 
   module _ (dashes : Bool) where
     taken-reads : (s : Start K) → first_word dashes table word ≡ s → (rest : List Bytes) (item : Item K) (left : List Bytes) → taken s rest ≡ Some (item, left) → reading dashes table (word ∷ rest) ≡ before item (reading dashes table left)
@@ -243,18 +243,18 @@ module _ {T K : Type 0} (values : Values T K) (table : List (Entry K)) (old : Pl
   -- a loose word after them
   pub cut-raw : is_seen (past_dashes old).dashes ≡ true → (copy : Bytes) → copy ≡ word → (new : Place) → new.words ≡ rest → new.dashes ≡ (past_dashes old).dashes → Cuts values table old (Raw copy) new
   cut-raw seen copy same new left dashes = record {
-    item = behind_dashes word;
+    item = after_dashes word;
     consumed = word ∷ [];
-    reads = reading-at ∙ by (past_dashes old).dashes seen ∙ ap (before (behind_dashes word)) (ap (λ d. reading_by table d rest) (sym dashes) ∙ ap (reading_by table new.dashes) (sym left));
+    reads = reading-at ∙ by (past_dashes old).dashes seen ∙ ap (before (after_dashes word)) (ap (λ d. reading_by table d rest) (sym dashes) ∙ ap (reading_by table new.dashes) (sym left));
     words = stand ∙ ap (λ (ws : List Bytes). word ∷ ws) (sym left);
     dashes = dashes;
     written = inl refl;
-    behind = sym (ap is_seen dashes ∙ seen);
+    after = sym (ap is_seen dashes ∙ seen);
     is = same;
     accepted = refl;
   }
     where
-      by : (d : DoubleDashes) → is_seen d ≡ true → reading_by table d (word ∷ rest) ≡ before (behind_dashes word) (reading_by table d rest)
+      by : (d : DoubleDashes) → is_seen d ≡ true → reading_by table d (word ∷ rest) ≡ before (after_dashes word) (reading_by table d rest)
       by Ordinary s = cc
       by Awaited s = cc
       by Seen s = refl
@@ -275,7 +275,7 @@ module _ {T K : Type 0} (values : Values T K) (table : List (Entry K)) (old : Pl
           words = stand ∙ c.apart ∙ ap (λ (ws : List Bytes). c.consumed ++ ws) (sym stays);
           dashes = dashes;
           written = c.written;
-          behind = word-before table word rest t.item left takes ∙ sym (ap is_seen dashes ∙ unseen);
+          after = word-before table word rest t.item left takes ∙ sym (ap is_seen dashes ∙ unseen);
           is = t.is;
           accepted = t.accepted;
         }

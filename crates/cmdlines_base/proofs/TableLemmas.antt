@@ -1,22 +1,22 @@
 -- Laws of the longest fit.
 use Rattle.std.proofs.Common.{◌≡◌, ◌≢◌, ℕ, ◌≤◌, List, [], ◌∷◌, ◌++◌, length, Option, None, Some, Bool, true, false, nat_lt, cond, refl, ap, sym, subst, append_assoc, ◌∙◌, arith, MatchOption, Contains, All}
 use Rattle.std.proofs.lemmas.List.{append-nil}
-use Rattle.cmdlines_base.specs.Table.{behind, longer, longest_fit, Entry, fits, may_follow, Fits, NoLonger, Shorter, all_entries, IsEntryOf}
+use Rattle.cmdlines_base.specs.Table.{after, longer, longest_fit, Entry, fits, may_follow, Fits, NoLonger, Shorter, all_entries, IsEntryOf}
 use Rattle.std.specs.Option.{option_copied, option_map_or}
 use Rattle.std.proofs.lemmas.List.Elements.{All-append, All-cons, All-nil, All-weaker, Contains-append_right, Contains-append_left, Contains-push}
 use denote.Ref.{Bor}
 use borrow.Author.Tests.{ltb-true, ltb-false}
 
 -- a flag and a rest: the rest comes after the flag
-pub behind-append : (flag rest : List ℕ) → behind flag (flag ++ rest) ≡ Some rest
-behind-append [] rest = refl
-behind-append (b ∷ flag) rest = grind (arith, behind-append flag rest)
+pub after-append : (flag rest : List ℕ) → after flag (flag ++ rest) ≡ Some rest
+after-append [] rest = refl
+after-append (b ∷ flag) rest = grind (arith, after-append flag rest)
 
 -- what comes after the flag, appended to the flag, makes the word
-pub append-behind : (flag word rest : List ℕ) → behind flag word ≡ Some rest → word ≡ flag ++ rest
-append-behind [] word rest h = cc
-append-behind (b ∷ flag) [] rest h = cc
-append-behind (b ∷ flag) (c ∷ word) rest h = grind (arith, append-behind flag word rest)
+pub append-after : (flag word rest : List ℕ) → after flag word ≡ Some rest → word ≡ flag ++ rest
+append-after [] word rest h = cc
+append-after (b ∷ flag) [] rest h = cc
+append-after (b ∷ flag) (c ∷ word) rest h = grind (arith, append-after flag word rest)
 
 pub longer_assoc : {K : Type 0} (a b c : Option (Entry K)) → longer (longer a b) c ≡ longer a (longer b c)
 longer_assoc None None None = refl
@@ -37,24 +37,24 @@ longest_fit-append [] fs word = sym (longer-none (longest_fit fs word))
 longest_fit-append (e ∷ es) fs word = rw (longest_fit-append es fs word) (sym (longer_assoc (cond (fits e word) (Some e) None) (longest_fit es word) (longest_fit fs word)))
 
 -- what `strip_prefix` gives is what comes after the flag
-pub behind_is : (flag word : List ℕ) (r : Option (Bor (List ℕ))) → MatchOption r ((rest : List ℕ) → word ≢ flag ++ rest) (λ x. word ≡ flag ++ x.now) → option_copied r ≡ behind flag word
-behind_is flag word None h = by (behind flag word) refl
+pub after_is : (flag word : List ℕ) (r : Option (Bor (List ℕ))) → MatchOption r ((rest : List ℕ) → word ≢ flag ++ rest) (λ x. word ≡ flag ++ x.now) → option_copied r ≡ after flag word
+after_is flag word None h = by (after flag word) refl
   where
-    by : (b : Option (List ℕ)) → behind flag word ≡ b → option_copied {T = List ℕ} None ≡ b
+    by : (b : Option (List ℕ)) → after flag word ≡ b → option_copied {T = List ℕ} None ≡ b
     by None q = refl
-    by (Some rest) q = absurd (h rest (append-behind flag word rest q))
-behind_is flag word (Some x) h = rw h (sym (behind-append flag x.now))
+    by (Some rest) q = absurd (h rest (append-after flag word rest q))
+after_is flag word (Some x) h = rw h (sym (after-append flag x.now))
 
 -- the test says what the words of the subject say
 pub Fits-from_test : {K : Type 0} (e : Entry K) (word : List ℕ) → fits e word ≡ true → Fits e word
-Fits-from_test e word h = by (behind e.flag word) refl h
+Fits-from_test e word h = by (after e.flag word) refl h
   where
-    by : (r : Option (List ℕ)) → behind e.flag word ≡ r → option_map_or (may_follow e) r false ≡ true → Fits e word
+    by : (r : Option (List ℕ)) → after e.flag word ≡ r → option_map_or (may_follow e) r false ≡ true → Fits e word
     by None q t = cc
-    by (Some rest) q t = (rest, append-behind e.flag word rest q, t)
+    by (Some rest) q t = (rest, append-after e.flag word rest q, t)
 
 pub test-from_Fits : {K : Type 0} (e : Entry K) (word : List ℕ) → Fits e word → fits e word ≡ true
-test-from_Fits e word f = ap (λ w. fits e w) f.1 ∙ ap (λ r. option_map_or (may_follow e) r false) (behind-append e.flag f.0) ∙ f.2
+test-from_Fits e word f = ap (λ w. fits e w) f.1 ∙ ap (λ r. option_map_or (may_follow e) r false) (after-append e.flag f.0) ∙ f.2
 
 -- what doesn't fit
 abbrev pub Unfit : {K : Type 0} → List ℕ → Entry K → Type 0

@@ -2,9 +2,9 @@
 use Rattle.std.specs.Prelude.{◌≡◌, Bool, true, false, not, ◌&&◌, ◌||◌, ◌==◌, List, [], ◌∷◌, ◌++◌, length, map, Option, None, Some, is_some, codes, Contains}
 use Rattle.std.specs.List.{list_all, AllByRecursion}
 use Rattle.base_files.specs.Bytes.{Bytes}
-use Rattle.cmdlines_base.specs.Table.{Entry, behind, longest_fit}
+use Rattle.cmdlines_base.specs.Table.{Entry, after, longest_fit}
 use Rattle.cmdlines_base.specs.Printing.{is_j, is_empty_j, printed, normal, words_of}
-use Rattle.cmdlines_base.specs.Reading.{Item, is_behind, reading, before, all_before}
+use Rattle.cmdlines_base.specs.Reading.{Item, is_after, reading, before, all_before}
 
 -- Flags are of one entry each, and no flag extends one of two bytes whose value may be joined or separate.
 pub record IsClear {K : Type 0} (table : List (Entry K)) : Type 0 where
@@ -29,7 +29,7 @@ AllReadAgain dashes table items = AllByRecursion (ReadsAgain dashes table) items
 
 -- each does that comes before double dashes which end the options, and isn't an empty value which may be joined or separate
 abbrev pub AllReadAgainUnlessEmpty : {K : Type 0} → Bool → List (Entry K) → List (Item K) → Type 0
-AllReadAgainUnlessEmpty dashes table items = AllByRecursion (λ a. ((is_behind a && dashes) || is_empty_j table a) ≡ false → ReadsAgain dashes table a) items
+AllReadAgainUnlessEmpty dashes table items = AllByRecursion (λ a. ((is_after a && dashes) || is_empty_j table a) ≡ false → ReadsAgain dashes table a) items
 
 -- no entry has the other's flag, and none extends one of two bytes whose value may be joined or separate
 abbrev pub free_by : Bool → Option (Bytes) → Bool
@@ -38,7 +38,7 @@ free_by j (Some []) = false
 free_by j (Some (b ∷ bs)) = not j
 
 abbrev pub is_free : {K : Type 0} → Entry K → Entry K → Bool
-is_free e d = free_by (is_j e && (length e.flag == 2)) (behind e.flag d.flag)
+is_free e d = free_by (is_j e && (length e.flag == 2)) (after e.flag d.flag)
 
 -- nothing fits double dashes, where these end the options
 abbrev pub lets_dashes : {K : Type 0} → Bool → List (Entry K) → Bool

@@ -2,7 +2,7 @@
 use Rattle.std.specs.Prelude.{◌≡◌, Bool, true, false, List, [], ◌∷◌, ◌++◌, Option, None, Some, if◌then◌else◌, ◌⊎◌}
 use Rattle.base_files.specs.Bytes.{Bytes}
 use Rattle.cmdlines_base.specs.Table.{Entry}
-use Rattle.cmdlines_base.specs.Reading.{Item, valued, Start, whole, awaits, ends, Reading, is_double_dash, all_behind, reading}
+use Rattle.cmdlines_base.specs.Reading.{Item, valued, Start, whole, awaits, ends, Reading, is_double_dash, all_after, reading}
 use Rattle.cmdlines_base.specs.Printing.{printed}
 use Rattle.cmdlines_base.specs.declared.argument.ArgDisposition.TheVariants.{Separated, CanBeConcatenated, CanBeSeparated, Concatenated}
 use Rattle.cmdlines_base.specs.declared.cutting.ArgsIter.{ArgsIter}
@@ -31,7 +31,7 @@ is_seen Seen = true
 abbrev pub reading_by : {K : Type 0} → List (Entry K) → DoubleDashes → List Bytes → Reading K
 reading_by table Ordinary words = reading false table words
 reading_by table Awaited words = reading true table words
-reading_by table Seen words = all_behind words
+reading_by table Seen words = all_after words
 
 abbrev pub reading_at : {K : Type 0} → List (Entry K) → Place → Reading K
 reading_at table place = reading_by table place.dashes place.words

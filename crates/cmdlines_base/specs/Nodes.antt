@@ -34,4 +34,4 @@ pub record IsPicked {K : Type 0} (depth byte : ℕ) (entries picked : List (Entr
   pub whole : entries ≡ front ++ (picked ++ back)
   pub before : All (LacksByte depth byte) front
   pub have : All (HasByte depth byte) picked
-  pub behind : All (LacksByte depth byte) back
+  pub after : All (LacksByte depth byte) back

@@ -47,14 +47,14 @@ data_in (WithValue f v d) = Some v
 pub data Part (T : Type 0) : Type 0 where
   bare : Bytes → Part T
   apart : T → Part T
-  behind : Bytes → Option ℕ → T → Part T
+  after : Bytes → Option ℕ → T → Part T
 
 -- a flag and its value, apart or joined
 abbrev pub parts_as : {T : Type 0} → Bytes → T → ArgDisposition → List (Part T)
 parts_as f v Separated = bare f ∷ apart v ∷ []
 parts_as f v (CanBeConcatenated d) = bare f ∷ apart v ∷ []
-parts_as f v (CanBeSeparated d) = behind f d v ∷ []
-parts_as f v (Concatenated d) = behind f d v ∷ []
+parts_as f v (CanBeSeparated d) = after f d v ∷ []
+parts_as f v (Concatenated d) = after f d v ∷ []
 
 abbrev pub parts_of : {T : Type 0} → Argument T → List (Part T)
 parts_of (Raw w) = bare w ∷ []
@@ -66,7 +66,7 @@ parts_of (WithValue f v d) = parts_as f.now v d
 abbrev pub part_word : {T : Type 0} → (T → Bytes) → Part T → Bytes
 part_word word (bare w) = w
 part_word word (apart v) = word v
-part_word word (behind f d v) = joined f d (word v)
+part_word word (after f d v) = joined f d (word v)
 
 -- the words of an argument
 abbrev pub argument_words : {T : Type 0} → (T → Bytes) → Argument T → List Bytes
@@ -82,7 +82,7 @@ stands_apart _ = false
 abbrev pub part_of : {T : Type 0} → Piece T → Part T
 part_of (pieces.Word w) = bare w.now
 part_of (pieces.Value v) = apart v.now
-part_of (pieces.Joined f d v) = behind f.now d v.now
+part_of (pieces.Joined f d v) = after f.now d v.now
 
 abbrev pub parts_left : {T : Type 0} → Pieces T → List (Part T)
 parts_left p = map part_of (option_to_list p.first ++ option_to_list p.second)

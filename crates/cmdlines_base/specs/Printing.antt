@@ -8,7 +8,7 @@ use Rattle.std.specs.List.{flat_map}
 use Rattle.std.specs.Option.{option_map_or}
 use Rattle.base_files.specs.Bytes.{Bytes}
 use Rattle.cmdlines_base.specs.Table.{Entry, longest_fit}
-use Rattle.cmdlines_base.specs.Reading.{Item, raw, unknown, flag, valued, behind_dashes}
+use Rattle.cmdlines_base.specs.Reading.{Item, raw, unknown, flag, valued, after_dashes}
 
 -- a value after its flag in one word; an empty one drops the delimiter
 abbrev pub joined : Bytes → Option ℕ → Bytes → Bytes
@@ -27,7 +27,7 @@ printed (raw w) = w ∷ []
 printed (unknown w) = w ∷ []
 printed (flag f k) = f ∷ []
 printed (valued f k v d) = printed_as f v d
-printed (behind_dashes w) = w ∷ []
+printed (after_dashes w) = w ∷ []
 
 -- A value that may be joined or separate becomes the one that is wanted; any other stays.
 abbrev pub normalized_disposition : NormalizedDisposition → ArgDisposition → ArgDisposition
@@ -39,18 +39,18 @@ normalized_disposition wanted.Concatenated (CanBeConcatenated d) = Concatenated 
 normalized_disposition wanted.Concatenated (CanBeSeparated d) = Concatenated d
 
 -- It is wanted joined where the flag has two bytes, else apart.
-abbrev pub wanted_behind : Bytes → NormalizedDisposition
-wanted_behind name = if length name == 2 then wanted.Concatenated else wanted.Separated
+abbrev pub wanted_after : Bytes → NormalizedDisposition
+wanted_after name = if length name == 2 then wanted.Concatenated else wanted.Separated
 
 abbrev pub normal_disposition : Bytes → ArgDisposition → ArgDisposition
-normal_disposition name d = normalized_disposition (wanted_behind name) d
+normal_disposition name d = normalized_disposition (wanted_after name) d
 
 abbrev pub normal : {K : Type 0} → Item K → Item K
 normal (raw w) = raw w
 normal (unknown w) = unknown w
 normal (flag f k) = flag f k
 normal (valued f k v d) = valued f k v (normal_disposition f d)
-normal (behind_dashes w) = behind_dashes w
+normal (after_dashes w) = after_dashes w
 
 -- the words of items, as they are written again
 abbrev pub words_of : {K : Type 0} → List (Item K) → List Bytes
@@ -73,4 +73,4 @@ is_empty_j table (unknown w) = false
 is_empty_j table (flag f k) = false
 is_empty_j table (valued f k [] d) = option_map_or is_j (longest_fit table f) false
 is_empty_j table (valued f k (b ∷ bs) d) = false
-is_empty_j table (behind_dashes w) = false
+is_empty_j table (after_dashes w) = false

@@ -4,7 +4,7 @@ use Rattle.std.specs.Str.{bytes_eq}
 use Rattle.base_files.specs.Bytes.{Bytes}
 use Rattle.cmdlines_base.specs.declared.argument.ArgDisposition.{ArgDisposition}
 use Rattle.cmdlines_base.specs.declared.argument.ArgDisposition.TheVariants.{Separated, CanBeConcatenated, CanBeSeparated, Concatenated}
-use Rattle.cmdlines_base.specs.Table.{Entry, behind, longest_fit}
+use Rattle.cmdlines_base.specs.Table.{Entry, after, longest_fit}
 
 -- an argument as it is in the words: a loose word, a word that looks like a flag and is in no table, a flag, a flag with its value, or a word after the double dashes that end the options
 pub data Item (K : Type 0) : Type 0 where
@@ -12,7 +12,7 @@ pub data Item (K : Type 0) : Type 0 where
   unknown : Bytes → Item K
   flag : Bytes → K → Item K
   valued : Bytes → K → Bytes → ArgDisposition → Item K
-  behind_dashes : Bytes → Item K
+  after_dashes : Bytes → Item K
 
 -- What a word makes by itself: an item, or a flag whose value is the next word, or the end of the options.
 pub data Start (K : Type 0) : Type 0 where
@@ -46,7 +46,7 @@ start_as f k (Some (CanBeSeparated d)) rest = start_either f k d rest
 
 abbrev pub first_by : {K : Type 0} → Option (Entry K) → Bytes → Start K
 first_by None word = whole (loose word)
-first_by (Some e) word = start_as e.flag e.kind e.takes (unwrap_or (behind e.flag word) [])
+first_by (Some e) word = start_as e.flag e.kind e.takes (unwrap_or (after e.flag word) [])
 
 -- the word begins with `@` (64)
 abbrev pub begins_with_at : Bytes → Bool
@@ -80,15 +80,15 @@ unfinished f k (CanBeSeparated d) = record { items = []; cut_short = true }
 unfinished f k (Concatenated d) = record { items = []; cut_short = true }
 
 -- words that all come after double dashes
-abbrev pub all_behind : {K : Type 0} → List Bytes → Reading K
-all_behind words = record { items = map behind_dashes words; cut_short = false }
+abbrev pub all_after : {K : Type 0} → List Bytes → Reading K
+all_after words = record { items = map after_dashes words; cut_short = false }
 
-abbrev pub is_behind : {K : Type 0} → Item K → Bool
-is_behind (raw w) = false
-is_behind (unknown w) = false
-is_behind (flag f k) = false
-is_behind (valued f k w d) = false
-is_behind (behind_dashes w) = true
+abbrev pub is_after : {K : Type 0} → Item K → Bool
+is_after (raw w) = false
+is_after (unknown w) = false
+is_after (flag f k) = false
+is_after (valued f k w d) = false
+is_after (after_dashes w) = true
 
 -- The reading of words, rule by rule: each word is an item by itself, or a flag that takes the next word for its value, or a flag at the end that lacks one, or the double dashes that end the options, and all words after them.
 pub data Reads {K : Type 0} (dashes : Bool) (table : List (Entry K)) : List Bytes → Reading K → Type 0 where
@@ -96,7 +96,7 @@ pub data Reads {K : Type 0} (dashes : Bool) (table : List (Entry K)) : List Byte
   alone : {word : Bytes} {words : List Bytes} {item : Item K} {r : Reading K} → first_word dashes table word ≡ whole item → Reads dashes table words r → Reads dashes table (word ∷ words) (before item r)
   with_value : {word value : Bytes} {words : List Bytes} {f : Bytes} {k : K} {d : ArgDisposition} {r : Reading K} → first_word dashes table word ≡ awaits f k d → Reads dashes table words r → Reads dashes table (word ∷ value ∷ words) (before (valued f k value d) r)
   lacking : {word : Bytes} {f : Bytes} {k : K} {d : ArgDisposition} → first_word dashes table word ≡ awaits f k d → Reads dashes table (word ∷ []) (unfinished f k d)
-  options_end : {word : Bytes} {words : List Bytes} → first_word dashes table word ≡ ends → Reads dashes table (word ∷ words) (all_behind words)
+  options_end : {word : Bytes} {words : List Bytes} → first_word dashes table word ≡ ends → Reads dashes table (word ∷ words) (all_after words)
 
 -- The same as a function: the reading from a first word on, given those from the word after it and from the one after that.
 abbrev pub from_last : {K : Type 0} → Start K → Reading K
@@ -105,9 +105,9 @@ from_last (awaits f k d) = unfinished f k d
 from_last ends = nothing
 
 abbrev pub from_first : {K : Type 0} → Start K → Bytes → List Bytes → Reading K → Reading K → Reading K
-from_first (whole a) next words behind_one behind_two = before a behind_one
-from_first (awaits f k d) next words behind_one behind_two = before (valued f k next d) behind_two
-from_first ends next words behind_one behind_two = all_behind (next ∷ words)
+from_first (whole a) next words after_one after_two = before a after_one
+from_first (awaits f k d) next words after_one after_two = before (valued f k next d) after_two
+from_first ends next words after_one after_two = all_after (next ∷ words)
 
 abbrev pub reading : {K : Type 0} → Bool → List (Entry K) → List Bytes → Reading K
 reading dashes table [] = nothing

@@ -9,7 +9,7 @@ use Rattle.cmdlines_base.specs.declared.argument_error.ArgParseError.TheVariants
 -- What comes before the first separator and what comes after it; where there is none, the word alone.
 abbrev pub IsSplit : Bytes → Bytes → Text → Option Text → Type 0
 IsSplit separator word before None = (string_bytes before ≡ word) × ((front back : Bytes) → word ≢ front ++ (separator ++ back))
-IsSplit separator word before (Some behind) = (word ≡ string_bytes before ++ (separator ++ string_bytes behind)) × ((front back : Bytes) → word ≡ front ++ (separator ++ back) → length (string_bytes before) ≤ length front)
+IsSplit separator word before (Some after) = (word ≡ string_bytes before ++ (separator ++ string_bytes after)) × ((front back : Bytes) → word ≡ front ++ (separator ++ back) → length (string_bytes before) ≤ length front)
 
 -- Why a word isn't split: it is no text, and comes back.
 abbrev pub IsNoText : Bytes → ArgParseError → Type 0

@@ -28,10 +28,10 @@ abbrev pub entries_of : {T K : Type 0} → List (ArgInfo T K) → List (Entry K)
 entries_of entries = map entry_of entries
 
 -- what comes after the flag, where the word begins with it
-abbrev pub behind : Bytes → Bytes → Option (Bytes)
-behind [] word = Some word
-behind (b ∷ flag) [] = None
-behind (b ∷ flag) (c ∷ word) = if b == c then behind flag word else None
+abbrev pub after : Bytes → Bytes → Option (Bytes)
+after [] word = Some word
+after (b ∷ flag) [] = None
+after (b ∷ flag) (c ∷ word) = if b == c then after flag word else None
 
 -- whether a byte may come right after the flag
 abbrev pub delimiter_allows : Option ℕ → ℕ → Bool
@@ -55,7 +55,7 @@ may_follow e (b ∷ bs) = option_map_or (λ d. delimiter_allows d b) (joins_by e
 
 -- The word is the flag, or the flag begins the word, the disposition may join, and the delimiter, if any, comes next.
 abbrev pub fits : {K : Type 0} → Entry K → Bytes → Bool
-fits e word = option_map_or (may_follow e) (behind e.flag word) false
+fits e word = option_map_or (may_follow e) (after e.flag word) false
 
 -- the entry with the longer flag, and the second where they are as long
 abbrev pub longer : {K : Type 0} → Option (Entry K) → Option (Entry K) → Option (Entry K)

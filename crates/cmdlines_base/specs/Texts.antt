@@ -6,7 +6,7 @@ use Rattle.std.specs.Str.{is_utf8}
 use Rattle.std.specs.declared.alloc.Global.{Global}
 use Rattle.base_files.specs.Bytes.{Bytes}
 use Rattle.cmdlines_base.specs.Printing.{joined}
-use Rattle.cmdlines_base.specs.Pieces.{Part, bare, apart, behind}
+use Rattle.cmdlines_base.specs.Pieces.{Part, bare, apart, after}
 use Rattle.cmdlines_base.specs.declared.argument_error.ArgToStringError.{ArgToStringError}
 use Rattle.cmdlines_base.specs.declared.argument_error.ArgToStringError.TheVariants.{FailedPathTransform, InvalidUnicode, Memory}
 
@@ -39,16 +39,16 @@ module _ {F T : Type 0} (g : Mut F (Bor Bytes × Unit {0}) (Option Text)) (word 
 
   -- a flag with its value as text after it; the delimiter is dropped where the text is empty
   abbrev pub JoinedText : Bytes → Option ℕ → T → F → Result Text ArgToStringError → F → Type 0
-  JoinedText flag d value f (Ok text) f' = (behind : Text) × TextOf value f (Ok behind) f' × (string_bytes text ≡ joined flag d (string_bytes behind))
+  JoinedText flag d value f (Ok text) f' = (after : Text) × TextOf value f (Ok after) f' × (string_bytes text ≡ joined flag d (string_bytes after))
   JoinedText flag d value f (Err (FailedPathTransform path)) f' = TextOf value f (Err (FailedPathTransform path)) f'
-  JoinedText flag d value f (Err (InvalidUnicode bytes)) f' = TextOf value f (Err (InvalidUnicode bytes)) f' ⊎ ((behind : Text) × TextOf value f (Ok behind) f' × (bytes ≡ joined flag d (string_bytes behind)) × (is_utf8 bytes ≡ false))
+  JoinedText flag d value f (Err (InvalidUnicode bytes)) f' = TextOf value f (Err (InvalidUnicode bytes)) f' ⊎ ((after : Text) × TextOf value f (Ok after) f' × (bytes ≡ joined flag d (string_bytes after)) × (is_utf8 bytes ≡ false))
   JoinedText flag d value f (Err Memory) f' = (r : Result Text ArgToStringError) × TextOf value f r f'
 
   -- a part of an argument as text
   abbrev pub PartText : Part T → F → Result Text ArgToStringError → F → Type 0
   PartText (bare w) f r f' = WordText w r × (f' ≡ f)
   PartText (apart value) f r f' = TextOf value f r f'
-  PartText (behind flag d value) f r f' = JoinedText flag d value f r f'
+  PartText (after flag d value) f r f' = JoinedText flag d value f r f'
 
   -- What one call of `next` does: it gives the text of the first part that is left; after an error nothing is left.
   abbrev pub GivesText : List (Part T) → F → Option (Result Text ArgToStringError) → List (Part T) → F → Type 0

@@ -3,7 +3,7 @@ use Rattle.std.specs.Prelude.{◌≡◌, Bool, true, List, [], ◌++◌, Option,
 use Rattle.base_files.specs.Bytes.{Bytes}
 use Rattle.cmdlines_base.specs.Refusal.{Refusal, IsErrorOf}
 use Rattle.cmdlines_base.specs.Table.{Entry}
-use Rattle.cmdlines_base.specs.Reading.{Item, raw, unknown, flag, valued, behind_dashes, is_behind, Start, whole, awaits, ends, Reading, nothing, before}
+use Rattle.cmdlines_base.specs.Reading.{Item, raw, unknown, flag, valued, after_dashes, is_after, Start, whole, awaits, ends, Reading, nothing, before}
 use Rattle.cmdlines_base.specs.Cutting.{Place, is_seen, taken, reading_at, past_dashes, IsWrittenAs}
 use Rattle.cmdlines_base.specs.declared.argument.Argument.{Argument}
 use Rattle.cmdlines_base.specs.declared.argument.Argument.TheVariants as arguments
@@ -37,7 +37,7 @@ module _ {T K : Type 0} (values : Values T K) where
   IsOf (raw w) (arguments.Raw v) = v ≡ w
   IsOf (unknown w) (arguments.UnknownFlag v) = v ≡ w
   IsOf (flag f k) (arguments.Flag g t) = (g.now ≡ f) × values.flag_value k t
-  IsOf (behind_dashes w) (arguments.Raw v) = v ≡ w
+  IsOf (after_dashes w) (arguments.Raw v) = v ≡ w
   IsOf (valued f k w d) (arguments.WithValue g t e) = (g.now ≡ f) × values.word_value k w t × (e ≡ d)
   IsOf _ _ = ⊥
 
@@ -47,7 +47,7 @@ module _ {T K : Type 0} (values : Values T K) where
   refusal_of (unknown w) = None
   refusal_of (flag f k) = None
   refusal_of (valued f k w d) = values.refusal k w
-  refusal_of (behind_dashes w) = None
+  refusal_of (after_dashes w) = None
 
   -- the error says why the item has no value
   abbrev pub IsErrorOn : Item K → ArgParseError → Type 0
@@ -94,7 +94,7 @@ module _ {T K : Type 0} (values : Values T K) where
     pub words : (past_dashes old).words ≡ consumed ++ new.words
     pub dashes : new.dashes ≡ (past_dashes old).dashes
     pub written : IsWrittenAs item consumed
-    pub behind : is_behind item ≡ is_seen new.dashes
+    pub after : is_after item ≡ is_seen new.dashes
     pub is : IsOf item argument
     pub accepted : refusal_of item ≡ None
 

@@ -11,7 +11,7 @@ ghost use Rattle.cmdlines_base.specs.Values.{values_by, IsOf, IsFirst, IsRefused
 
 use crate::argument::{ArgDisposition, Argument, Delimiter};
 use crate::argument_error::{ArgParseError, ArgParseResult};
-use crate::table::{ArgInfo, SearchableArgInfo, behind};
+use crate::table::{ArgInfo, SearchableArgInfo, after};
 use crate::value::ArgumentValue;
 use base_files::OsBytes;
 use std::alloc::{AllocError, Global};
@@ -87,7 +87,7 @@ fn first_by<T: ArgumentValue>(
             Ok(First::Whole(Argument::Flag(flag, T::of_flag(alloc, *kind))))
         }
         Some(ArgInfo::TakeArg(flag, kind, disposition)) => {
-            let rest = behind(flag.as_bytes(), word).unwrap_or(&[]);
+            let rest = after(flag.as_bytes(), word).unwrap_or(&[]);
             match disposition {
                 ArgDisposition::Separated => Ok(First::Awaits(flag, *kind, *disposition)),
                 ArgDisposition::Concatenated(delimiter) => {

@@ -29,5 +29,5 @@ pub use printing::{
 };
 pub use reading_back::{items_read_again, items_read_together};
 pub use splitting::split_os_string_arg;
-pub use table::{ArgInfo, SearchableArgInfo, Table, behind, entry_has_the_longest_flag};
+pub use table::{ArgInfo, SearchableArgInfo, Table, after, entry_has_the_longest_flag};
 pub use value::{ArgumentValue, FromArg, IntoArg, path_to_string, word_to_string};

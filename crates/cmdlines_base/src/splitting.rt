@@ -24,10 +24,10 @@ pub fn split_os_string_arg(
     };
     match text.split_once(separator) {
         None => Ok((String::from_str(alloc, text)?, None)),
-        Some((before, behind)) => {
+        Some((before, after)) => {
             let before = String::from_str(alloc, before)?;
-            let behind = String::from_str(alloc, behind)?;
-            Ok((before, Some(behind)))
+            let after = String::from_str(alloc, after)?;
+            Ok((before, Some(after)))
         }
     }
 }

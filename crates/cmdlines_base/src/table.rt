@@ -8,7 +8,7 @@ ghost use Rattle.cmdlines_base.specs.Nodes.{Begins, GoesOn, IsNode, IsPicked, by
 ghost use Rattle.std.specs.Option.{option_copied};
 ghost use Rattle.base_files.specs.Bytes.{Bytes};
 ghost use Rattle.cmdlines_base.specs.Reach.{reach};
-ghost use Rattle.cmdlines_base.specs.Table.{Entry, entry_of, entry_at, entries_of, fits, joins_by, may_follow, has_ascii, rises_to, is_table, longer, all_entries, longest_fit, IsEntryOf, behind};
+ghost use Rattle.cmdlines_base.specs.Table.{Entry, entry_of, entry_at, entries_of, fits, joins_by, may_follow, has_ascii, rises_to, is_table, longer, all_entries, longest_fit, IsEntryOf, after};
 
 use crate::argument::{ArgDisposition, Delimiter};
 use crate::value::ArgumentValue;
@@ -22,8 +22,8 @@ pub enum ArgInfo<T: ArgumentValue> {
 }
 
 /// What comes after the flag, where the word begins with it.
-pub fn behind<'a>(flag: &[u8], word: &'a [u8]) -> Option<&'a [u8]>
-    ensures { option_copied result ≡ behind flag.now word.now }
+pub fn after<'a>(flag: &[u8], word: &'a [u8]) -> Option<&'a [u8]>
+    ensures { option_copied result ≡ after flag.now word.now }
 {
     word.strip_prefix(flag)
 }
@@ -78,14 +78,14 @@ impl<T: ArgumentValue> ArgInfo<T> {
     pub fn fits(&self, word: &[u8]) -> bool
         ensures { result ≡ fits (entry_of self.now) word.now }
     {
-        match behind(self.flag().as_bytes(), word) {
+        match after(self.flag().as_bytes(), word) {
             Some(rest) => self.may_follow(rest),
             None => false,
         }
     }
 
     /// The same of a word that begins with the flag, which has so many bytes.
-    fn fits_behind(&self, depth: usize, word: &[u8]) -> bool
+    fn fits_after(&self, depth: usize, word: &[u8]) -> bool
         requires begins { Begins depth word.now (entry_of self.now) }
         requires ends { length (entry_of self.now).flag ≤ depth }
         requires within { depth ≤ length word.now }
@@ -157,7 +157,7 @@ pub(crate) fn past_ended<'a, T: ArgumentValue>(
 {
     match node.split_first() {
         Some((entry, others)) if entry.flag().len() <= depth => {
-            let found = if entry.fits_behind(depth, word) {
+            let found = if entry.fits_after(depth, word) {
                 longer(best, Some(entry))
             } else {
                 best

@@ -67,7 +67,7 @@ record Inside (quote : ℕ) (text : List ℕ) : Type 0 where
   run_letters : List Letter
   tail : List ℕ
   are : InRun quote run_letters
-  behind : (tail ≡ []) ⊎ ((tail ≡ 92 ∷ []) ⊎ ((rest : List ℕ) × (tail ≡ quote ∷ rest) × Outside rest))
+  after : (tail ≡ []) ⊎ ((tail ≡ 92 ∷ []) ⊎ ((rest : List ℕ) × (tail ≡ quote ∷ rest) × Outside rest))
   whole : text ≡ letters_text run_letters tail
 
 -- a quote and what follows it
@@ -100,7 +100,7 @@ unquoted b rest true h o = record { pieces = gap b ∷ o.pieces; ending = o.endi
 unquoted b rest false h o = record { pieces = single (plain b) ∷ o.pieces; ending = o.ending; are = (h, o.are); ends = o.ends; whole = ap (λ (l : List ℕ). b ∷ l) o.whole }
 
 out_plain : (b : ℕ) (rest : List ℕ) (quote : Bool) → is_quote b ≡ quote → (b == 92) ≡ false → Outside rest → ((q : ℕ) → Inside q rest) → Outside (b ∷ rest)
-out_plain b rest true k e o i = quoted b rest (e, k) (i b) (i b).behind
+out_plain b rest true k e o i = quoted b rest (e, k) (i b) (i b).after
 out_plain b rest false k e o i = unquoted b rest (is_white b) (e, k, refl) o
 
 in_plain : (b : ℕ) (rest : List ℕ) (q : ℕ) (same : Bool) → (b == q) ≡ same → (b == 92) ≡ false → Outside rest → Inside q rest → Inside q (b ∷ rest)
@@ -108,16 +108,16 @@ in_plain b rest q true k e o i = record {
   run_letters = [];
   tail = b ∷ rest;
   are = tt;
-  behind = inr (inr (rest, ap (λ (x : ℕ). x ∷ rest) ((Decides-eqb b q).0 k), o));
+  after = inr (inr (rest, ap (λ (x : ℕ). x ∷ rest) ((Decides-eqb b q).0 k), o));
   whole = refl;
 }
-in_plain b rest q false k e o i = record { run_letters = plain b ∷ i.run_letters; tail = i.tail; are = (e, k, i.are); behind = i.behind; whole = ap (λ (l : List ℕ). b ∷ l) i.whole }
+in_plain b rest q false k e o i = record { run_letters = plain b ∷ i.run_letters; tail = i.tail; are = (e, k, i.are); after = i.after; whole = ap (λ (l : List ℕ). b ∷ l) i.whole }
 
 one_byte : (b : ℕ) (slashed : Bool) → (b == 92) ≡ slashed → Outside [] × ((quote : ℕ) → Inside quote []) → Outside (b ∷ []) × ((quote : ℕ) → Inside quote (b ∷ []))
 one_byte b true e r =
     let is : b ∷ [] ≡ 92 ∷ [] = ap (λ (x : ℕ). x ∷ []) ((Decides-eqb b 92).0 e) in (
       record { pieces = []; ending = slash; are = tt; ends = tt; whole = is },
-      λ quote. record { run_letters = []; tail = b ∷ []; are = tt; behind = inr (inl is); whole = refl },
+      λ quote. record { run_letters = []; tail = b ∷ []; are = tt; after = inr (inl is); whole = refl },
     )
 one_byte b false e r = (out_plain b [] (is_quote b) refl e r.0 r.1, λ quote. in_plain b [] quote (b == quote) refl e r.0 (r.1 quote))
 
@@ -128,7 +128,7 @@ more_bytes b c rest true e r s =
     let is : b ∷ c ∷ rest ≡ 92 ∷ c ∷ rest = ap (λ (x : ℕ). x ∷ c ∷ rest) ((Decides-eqb b 92).0 e) in (
       record { pieces = single (escaped c) ∷ s.0.pieces; ending = s.0.ending; are = s.0.are; ends = s.0.ends; whole = is ∙ ap (λ (l : List ℕ). 92 ∷ c ∷ l) s.0.whole },
       λ quote. let i = s.1 quote in
-          record { run_letters = escaped c ∷ i.run_letters; tail = i.tail; are = i.are; behind = i.behind; whole = is ∙ ap (λ (l : List ℕ). 92 ∷ c ∷ l) i.whole },
+          record { run_letters = escaped c ∷ i.run_letters; tail = i.tail; are = i.are; after = i.after; whole = is ∙ ap (λ (l : List ℕ). 92 ∷ c ∷ l) i.whole },
     )
 more_bytes b c rest false e r s =
     (out_plain b (c ∷ rest) (is_quote b) refl e r.0 r.1, λ quote. in_plain b (c ∷ rest) quote (b == quote) refl e r.0 (r.1 quote))
@@ -136,7 +136,7 @@ more_bytes b c rest false e r s =
 splits : (text : List ℕ) → Outside text × ((quote : ℕ) → Inside quote text)
 splits [] = (
   record { pieces = []; ending = clean; are = tt; ends = tt; whole = refl },
-  λ quote. record { run_letters = []; tail = []; are = tt; behind = inl refl; whole = refl },
+  λ quote. record { run_letters = []; tail = []; are = tt; after = inl refl; whole = refl },
 )
 splits (b ∷ []) = one_byte b (b == 92) refl (splits [])
 splits (b ∷ c ∷ rest) = more_bytes b c rest (b == 92) refl (splits (c ∷ rest)) (splits rest)

@@ -3,19 +3,19 @@ use Rattle.std.proofs.Common.{◌≡◌, ℕ, zero, suc, ◌+◌, Bool, true, fa
 use Rattle.std.proofs.lemmas.Bool.Decides.{Decides-eqb}
 use Rattle.base_files.specs.Bytes.{Bytes}
 use Rattle.cmdlines_response_files.specs.Gathering.{gathered}
-use Rattle.cmdlines_response_files.specs.Msvc.{is_separator, backslashes, Piece, text_of, quotes, is_even, quoted_behind, slashes_marks, quote_adds, piece_marks, marks_of, ArePieces, IsMsvcText}
+use Rattle.cmdlines_response_files.specs.Msvc.{is_separator, backslashes, Piece, text_of, quotes, is_even, quoted_after, slashes_marks, quote_adds, piece_marks, marks_of, ArePieces, IsMsvcText}
 use Rattle.cmdlines_response_files.specs.Scanning.{msvc_marks, msvc_arguments}
 
 -- backslashes are counted
-behind_slashes : (quoted : Bool) (n m : ℕ) (rest : Bytes) → msvc_marks quoted n (backslashes m ++ rest) ≡ msvc_marks quoted (n + m) rest
-behind_slashes quoted n zero rest = ap (λ k. msvc_marks quoted k rest) {x = n} {y = n + 0} (omega arith)
-behind_slashes quoted n (suc m) rest = behind_slashes quoted (n + 1) m rest ∙ ap (λ k. msvc_marks quoted k rest) {x = n + 1 + m} {y = n + suc m} (omega arith)
+after_slashes : (quoted : Bool) (n m : ℕ) (rest : Bytes) → msvc_marks quoted n (backslashes m ++ rest) ≡ msvc_marks quoted (n + m) rest
+after_slashes quoted n zero rest = ap (λ k. msvc_marks quoted k rest) {x = n} {y = n + 0} (omega arith)
+after_slashes quoted n (suc m) rest = after_slashes quoted (n + 1) m rest ∙ ap (λ k. msvc_marks quoted k rest) {x = n + 1 + m} {y = n + suc m} (omega arith)
 
-behind_none : (quoted : Bool) (m : ℕ) (rest : Bytes) → msvc_marks quoted 0 (backslashes m ++ rest) ≡ msvc_marks quoted m rest
-behind_none quoted m rest = behind_slashes quoted 0 m rest ∙ ap (λ k. msvc_marks quoted k rest) {x = 0 + m} {y = m} (omega arith)
+after_none : (quoted : Bool) (m : ℕ) (rest : Bytes) → msvc_marks quoted 0 (backslashes m ++ rest) ≡ msvc_marks quoted m rest
+after_none quoted m rest = after_slashes quoted 0 m rest ∙ ap (λ k. msvc_marks quoted k rest) {x = 0 + m} {y = m} (omega arith)
 
 -- a byte that is no backslash makes a piece with those before it
-of_piece : (quoted : Bool) (p : Piece) (rest : Bytes) → (p.byte == 92) ≡ false → msvc_marks quoted p.slashes (p.byte ∷ rest) ≡ piece_marks quoted p (msvc_marks (quoted_behind quoted p) 0 rest)
+of_piece : (quoted : Bool) (p : Piece) (rest : Bytes) → (p.byte == 92) ≡ false → msvc_marks quoted p.slashes (p.byte ∷ rest) ≡ piece_marks quoted p (msvc_marks (quoted_after quoted p) 0 rest)
 of_piece quoted p rest other = rw other (by (quotes p) refl)
   where
     by : (q : Bool) → quotes p ≡ q
@@ -30,9 +30,9 @@ of_piece quoted p rest other = rw other (by (quotes p) refl)
 
 -- the marks of a text are those of its pieces
 marks_are : (quoted : Bool) (ps : List Piece) (left : ℕ) → ArePieces ps → msvc_marks quoted 0 (text_of ps left) ≡ marks_of quoted ps left
-marks_are quoted [] left h = ap (msvc_marks quoted 0) (sym (append-nil (backslashes left))) ∙ behind_none quoted left []
+marks_are quoted [] left h = ap (msvc_marks quoted 0) (sym (append-nil (backslashes left))) ∙ after_none quoted left []
 marks_are quoted (p ∷ ps) left h =
-    behind_none quoted p.slashes (p.byte ∷ text_of ps left) ∙ of_piece quoted p (text_of ps left) h.0 ∙ ap (piece_marks quoted p) (marks_are (quoted_behind quoted p) ps left h.1)
+    after_none quoted p.slashes (p.byte ∷ text_of ps left) ∙ of_piece quoted p (text_of ps left) h.0 ∙ ap (piece_marks quoted p) (marks_are (quoted_after quoted p) ps left h.1)
 
 pub only : (text : Bytes) (arguments : List Bytes) → IsMsvcText text arguments → arguments ≡ msvc_arguments text
 only text arguments r = r.read ∙ ap (gathered None) (sym (ap (msvc_marks false 0) r.whole ∙ marks_are false r.pieces r.left r.are))

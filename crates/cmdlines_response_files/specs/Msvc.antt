@@ -30,8 +30,8 @@ abbrev pub is_even : ℕ → Bool
 is_even n = n % 2 == 0
 
 -- whether what comes after the piece is in quotes
-abbrev pub quoted_behind : Bool → Piece → Bool
-quoted_behind quoted p = if quotes p && is_even p.slashes then not quoted else quoted
+abbrev pub quoted_after : Bool → Piece → Bool
+quoted_after quoted p = if quotes p && is_even p.slashes then not quoted else quoted
 
 -- backslashes that stand for themselves
 abbrev pub slashes_marks : ℕ → List Mark → List Mark
@@ -51,7 +51,7 @@ piece_marks quoted p more =
 -- what pieces mean, in quotes or not, and the backslashes that are left at the end
 abbrev pub marks_of : Bool → List Piece → ℕ → List Mark
 marks_of quoted [] left = slashes_marks left []
-marks_of quoted (p ∷ pieces) left = piece_marks quoted p (marks_of (quoted_behind quoted p) pieces left)
+marks_of quoted (p ∷ pieces) left = piece_marks quoted p (marks_of (quoted_after quoted p) pieces left)
 
 abbrev pub ArePieces : List Piece → Type 0
 ArePieces pieces = AllByRecursion (λ (p : Piece). (p.byte == 92) ≡ false) pieces

@@ -16,12 +16,12 @@ mark_of Msvc = codes "@"
 mark_of Diab = codes "-@"
 
 -- what comes after the mark, where the word begins with it
-abbrev pub behind : Bytes → Bytes → Option Bytes
-behind mark word = if starts_with nat_eq word mark then Some (drop (length mark) word) else None
+abbrev pub after : Bytes → Bytes → Option Bytes
+after mark word = if starts_with nat_eq word mark then Some (drop (length mark) word) else None
 
 -- the path of the response file that a word names, in that directory
 abbrev pub path_of : Style → Bytes → Bytes → Option Bytes
-path_of style dir word = option_map (join dir) (behind (mark_of style) word)
+path_of style dir word = option_map (join dir) (after (mark_of style) word)
 
 -- 34 is '"', 39 is '\'', 92 is '\\'
 abbrev pub is_special : ℕ → Bool

@@ -57,9 +57,9 @@ fn utf16_text(alloc: Global, high_first: bool, bytes: &[u8]) -> Result<String, A
 {
     let mut units = Vec::new(alloc);
     let mut rest = bytes;
-    while let [first, second, behind @ ..] = rest {
+    while let [first, second, after @ ..] = rest {
         units.push(unit(high_first, *first, *second))?;
-        rest = behind;
+        rest = after;
     }
     let mut text = String::from_utf16_lossy(alloc, units.as_slice())?;
     if !rest.is_empty() {

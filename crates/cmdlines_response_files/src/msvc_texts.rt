@@ -38,8 +38,8 @@ fn first_argument(alloc: Global, text: &[u8]) -> Result<Option<(OsBytes, &[u8])>
     let mut quoted = false;
     let mut slashes: usize = 0;
     let mut rest = text;
-    while let Some((byte, behind)) = rest.split_first() {
-        rest = behind;
+    while let Some((byte, after)) = rest.split_first() {
+        rest = after;
         if *byte == b'\\' {
             slashes += 1;
         } else if *byte == b'"' {

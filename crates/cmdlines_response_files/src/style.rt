@@ -5,7 +5,7 @@ ghost use Rattle.std.specs.List.{list_any};
 ghost use Rattle.std.specs.Option.{option_copied};
 ghost use Rattle.cmdlines_response_files.specs.Decoding.{decoded};
 ghost use Rattle.cmdlines_response_files.specs.Scanning.{gnu_arguments, msvc_arguments};
-ghost use Rattle.cmdlines_response_files.specs.Styles.{behind, is_special, mark_of, names_file, path_of, words_of};
+ghost use Rattle.cmdlines_response_files.specs.Styles.{after, is_special, mark_of, names_file, path_of, words_of};
 
 use crate::decoding::decode_response_text;
 use crate::gnu_texts::split_gnu_response_file_args;
@@ -57,7 +57,7 @@ impl Style {
     ) -> Result<Option<OsBytes>, AllocError>
         ensures { IfOk result (λ path. path ≡ path_of self dir.now word.now) }
     {
-        match behind(self.mark(), word) {
+        match after(self.mark(), word) {
             Some(name) => Ok(Some(join(alloc, dir.as_bytes(), name)?)),
             None => Ok(None),
         }
@@ -85,8 +85,8 @@ impl Style {
 }
 
 /// What comes after the mark, where the word begins with it.
-fn behind<'a>(mark: &[u8], word: &'a [u8]) -> Option<&'a [u8]>
-    ensures { option_copied result ≡ behind mark.now word.now }
+fn after<'a>(mark: &[u8], word: &'a [u8]) -> Option<&'a [u8]>
+    ensures { option_copied result ≡ after mark.now word.now }
 {
     word.strip_prefix(mark)
 }

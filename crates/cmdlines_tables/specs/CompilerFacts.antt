@@ -15,7 +15,7 @@ use Rattle.cmdlines_tables.specs.declared.compiler.Spelling.{Spelling}
 use Rattle.cmdlines_tables.specs.declared.compiler.Spelling.TheVariants as spellings
 use Rattle.cmdlines_tables.specs.declared.kind.ArgKind.{ArgKind}
 
--- the word that makes messages coloured: a flag, or one that takes a value behind a '=' (61)
+-- the word that makes messages coloured: a flag, or one that takes a value after a '=' (61)
 pub data ColorWord : Type 0 where
   by_flag : Bytes → ColorWord
   by_value : Bytes → Bytes → ColorWord

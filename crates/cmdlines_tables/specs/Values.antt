@@ -1,7 +1,7 @@
 -- The arguments of a C compiler, as items.
 use Rattle.std.specs.Prelude.{◌≡◌, Bool, true, false, [], Option, None}
 use Rattle.base_files.specs.Bytes.{Bytes}
-use Rattle.cmdlines_base.specs.Reading.{Item, raw, unknown, flag, valued, behind_dashes}
+use Rattle.cmdlines_base.specs.Reading.{Item, raw, unknown, flag, valued, after_dashes}
 use Rattle.cmdlines_base.specs.Refusal.{Refusal}
 use Rattle.cmdlines_base.specs.declared.argument.Argument.{Argument}
 use Rattle.cmdlines_base.specs.declared.argument.Argument.TheVariants as arguments
@@ -29,7 +29,7 @@ never kind word = None
 
 -- an argument, without where its flag lies in memory, and where it is: after double dashes that end the options, or not
 abbrev pub placed : Bool → Argument ArgData → Item ArgKind
-placed true (arguments.Raw w) = behind_dashes w
+placed true (arguments.Raw w) = after_dashes w
 placed false (arguments.Raw w) = raw w
 placed _ (arguments.UnknownFlag w) = unknown w
 placed _ (arguments.Flag f value) = flag f.now (kind_in value)

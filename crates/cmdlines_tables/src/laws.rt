@@ -2,7 +2,7 @@
 
 ghost use Rattle.std.specs.Prelude.{◌≡◌, Bool, true, Some, Contains, length};
 ghost use Rattle.std.specs.List.{list_any};
-ghost use Rattle.cmdlines_base.specs.Reading.{Item, is_behind};
+ghost use Rattle.cmdlines_base.specs.Reading.{Item, is_after};
 ghost use Rattle.cmdlines_base.specs.Table.{Entry};
 ghost use Rattle.cmdlines_base.specs.Values.{IsOf, values_by};
 ghost use Rattle.cmdlines_base.specs.declared.argument.Argument.{Argument};
@@ -57,6 +57,6 @@ pub fn only_msvc_gives_inputs_by_options()
 /// An argument that was cut, in its place, is its item.
 pub fn arguments_are_their_items()
     ensures { (item : Item ArgKind) (argument : Argument ArgData) (seen : Bool)
-        → IsOf (values_by IsFlag IsValue never) item argument → is_behind item ≡ seen
+        → IsOf (values_by IsFlag IsValue never) item argument → is_after item ≡ seen
         → placed seen argument ≡ item }
 {}

@@ -57,7 +57,7 @@ fn take<'a>(
 }
 
 /// The value of an option: what comes right after its name, or the next word.
-fn value_behind<'a>(rest: &'a str, words: &mut Words<'a>) -> Option<&'a str> {
+fn value_after<'a>(rest: &'a str, words: &mut Words<'a>) -> Option<&'a str> {
     match rest.is_empty() {
         true => words.take(),
         false => Some(rest),
@@ -66,7 +66,7 @@ fn value_behind<'a>(rest: &'a str, words: &mut Words<'a>) -> Option<&'a str> {
 
 /// The option of that name, with the value after it.
 fn valued<'a>(name: &str, rest: &'a str, words: &mut Words<'a>) -> Option<Asked<'a>> {
-    match value_behind(rest, words) {
+    match value_after(rest, words) {
         Some(value) => Asked::with_value(name, value),
         None => None,
     }

@@ -172,7 +172,7 @@ pub fn show<R: Print + AllocGlobal>(
     Ok(())
 }
 
-/// Whether a number stands in a row of its own, or counts for one.
+/// Whether a number has a row of its own, or counts for one.
 fn is_in_rows(name: &str) -> bool {
     HITS.contains(&name)
         || MISSES.contains(&name)

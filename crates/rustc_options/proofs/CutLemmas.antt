@@ -2,7 +2,7 @@
 use Rattle.std.proofs.Common.{◌≡◌, ℕ, suc, ◌<◌, ◌≤◌, ◌+◌, ◌==◌, List, [], ◌∷◌, length, take, drop, Option, None, Some, Bool, true, false, cond, nat_lt, refl, ap, sym, ◌∙◌, arith}
 use borrow.Author.Tests.{ltb-true, ltb-false}
 use Rattle.std.specs.List.{position_or_len}
-use Rattle.rustc_options.specs.Splitting.{before_equals, behind_equals, maybe_with_equals}
+use Rattle.rustc_options.specs.Splitting.{before_equals, after_equals, maybe_with_equals}
 use Rattle.rustc_options.specs.Printed.{both_again}
 
 abbrev pub is_equals : ℕ → Bool
@@ -25,42 +25,42 @@ before-front : (w : List ℕ) → take (front w) w ≡ before_equals w
 before-front [] = refl
 before-front (b ∷ bs) = before-step b bs (b == 61) refl (before-front bs)
 
-behind-step : (b : ℕ) (bs : List ℕ) (is : Bool) → (b == 61) ≡ is → (front bs < length bs → behind_equals bs ≡ Some (drop (suc (front bs)) bs)) → front (b ∷ bs) < length (b ∷ bs) → behind_equals (b ∷ bs) ≡ Some (drop (suc (front (b ∷ bs))) (b ∷ bs))
-behind-step b bs true is h within = rw is refl
-behind-step b bs false is h within =
+after-step : (b : ℕ) (bs : List ℕ) (is : Bool) → (b == 61) ≡ is → (front bs < length bs → after_equals bs ≡ Some (drop (suc (front bs)) bs)) → front (b ∷ bs) < length (b ∷ bs) → after_equals (b ∷ bs) ≡ Some (drop (suc (front (b ∷ bs))) (b ∷ bs))
+after-step b bs true is h within = rw is refl
+after-step b bs false is h within =
     let later = front-later b bs is in
-    let here : behind_equals (b ∷ bs) ≡ behind_equals bs = rw is refl in
+    let here : after_equals (b ∷ bs) ≡ after_equals bs = rw is refl in
     here ∙ h (omega arith) ∙ ap (λ n. Some (drop (suc n) (b ∷ bs))) (sym later)
 
-behind-front : (w : List ℕ) → front w < length w → behind_equals w ≡ Some (drop (suc (front w)) w)
-behind-front [] within = absurd (omega arith)
-behind-front (b ∷ bs) within = behind-step b bs (b == 61) refl (behind-front bs) within
+after-front : (w : List ℕ) → front w < length w → after_equals w ≡ Some (drop (suc (front w)) w)
+after-front [] within = absurd (omega arith)
+after-front (b ∷ bs) within = after-step b bs (b == 61) refl (after-front bs) within
 
-none-step : (b : ℕ) (bs : List ℕ) (is : Bool) → (b == 61) ≡ is → (length bs ≤ front bs → behind_equals bs ≡ None) → length (b ∷ bs) ≤ front (b ∷ bs) → behind_equals (b ∷ bs) ≡ None
+none-step : (b : ℕ) (bs : List ℕ) (is : Bool) → (b == 61) ≡ is → (length bs ≤ front bs → after_equals bs ≡ None) → length (b ∷ bs) ≤ front (b ∷ bs) → after_equals (b ∷ bs) ≡ None
 none-step b bs true is h past = let p : length (b ∷ bs) ≤ 0 = rw is at past in absurd (omega arith)
 none-step b bs false is h past = let p : length (b ∷ bs) ≤ 1 + front bs = rw is at past in rw is (h (omega arith))
 
-none-behind : (w : List ℕ) → length w ≤ front w → behind_equals w ≡ None
-none-behind [] past = refl
-none-behind (b ∷ bs) past = none-step b bs (b == 61) refl (none-behind bs) past
+none-after : (w : List ℕ) → length w ≤ front w → after_equals w ≡ None
+none-after [] past = refl
+none-after (b ∷ bs) past = none-step b bs (b == 61) refl (none-after bs) past
 
 -- where it is, as `position` says it
 abbrev pub place_if : List ℕ → Bool → Option ℕ
 place_if w within = cond within (Some (front w)) None
 
-cut-by : (w : List ℕ) (i : ℕ) (within : Bool) → nat_lt (front w) (length w) ≡ within → Some i ≡ place_if w within → (take i w ≡ before_equals w) × (behind_equals w ≡ Some (drop (suc i) w))
-cut-by w i true within at = let e : i ≡ front w = cc in rw e (before-front w, behind-front w (ltb-true (front w) (length w) within))
+cut-by : (w : List ℕ) (i : ℕ) (within : Bool) → nat_lt (front w) (length w) ≡ within → Some i ≡ place_if w within → (take i w ≡ before_equals w) × (after_equals w ≡ Some (drop (suc i) w))
+cut-by w i true within at = let e : i ≡ front w = cc in rw e (before-front w, after-front w (ltb-true (front w) (length w) within))
 cut-by w i false within at = absurd (cc)
 
-pub cut-at : (w : List ℕ) (i : ℕ) → Some i ≡ place_if w (nat_lt (front w) (length w)) → (take i w ≡ before_equals w) × (behind_equals w ≡ Some (drop (suc i) w))
+pub cut-at : (w : List ℕ) (i : ℕ) → Some i ≡ place_if w (nat_lt (front w) (length w)) → (take i w ≡ before_equals w) × (after_equals w ≡ Some (drop (suc i) w))
 cut-at w i at = cut-by w i (nat_lt (front w) (length w)) refl at
 
-whole-by : (w : List ℕ) (within : Bool) → nat_lt (front w) (length w) ≡ within → None ≡ place_if w within → behind_equals w ≡ None
+whole-by : (w : List ℕ) (within : Bool) → nat_lt (front w) (length w) ≡ within → None ≡ place_if w within → after_equals w ≡ None
 whole-by w true within at = absurd (cc)
-whole-by w false within at = none-behind w (ltb-false (front w) (length w) within)
+whole-by w false within at = none-after w (ltb-false (front w) (length w) within)
 
-pub no-cut : (w : List ℕ) → None ≡ place_if w (nat_lt (front w) (length w)) → behind_equals w ≡ None
+pub no-cut : (w : List ℕ) → None ≡ place_if w (nat_lt (front w) (length w)) → after_equals w ≡ None
 no-cut w at = whole-by w (nat_lt (front w) (length w)) refl at
 
-pub whole-before : (w : List ℕ) → behind_equals w ≡ None → before_equals w ≡ w
+pub whole-before : (w : List ℕ) → after_equals w ≡ None → before_equals w ≡ w
 whole-before w h = sym (ap (maybe_with_equals (before_equals w)) h) ∙ both_again w

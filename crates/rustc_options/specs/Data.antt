@@ -6,7 +6,7 @@ use Rattle.std.specs.Str.{bytes_eq}
 use Rattle.base_files.specs.Bytes.{Bytes}
 use Rattle.base_files.specs.Path.{extension}
 use Rattle.cmdlines_base.specs.Refusal.{Refusal, because}
-use Rattle.rustc_options.specs.Splitting.{before_equals, behind_equals, with_equals, maybe_with_equals}
+use Rattle.rustc_options.specs.Splitting.{before_equals, after_equals, with_equals, maybe_with_equals}
 use Rattle.rustc_options.specs.Sets.{between_commas, joined_by_commas, in_order}
 use Rattle.rustc_options.specs.declared.types.ArgCrateTypes.{ArgCrateTypes}
 use Rattle.rustc_options.specs.declared.types.ArgExtern.{ArgExtern}
@@ -60,7 +60,7 @@ link_library_by front None = record { kind = codes "dylib"; name = front }
 link_library_by front (Some back) = record { kind = front; name = back }
 
 abbrev pub link_library_of : Bytes → ArgLinkLibrary
-link_library_of word = link_library_by (before_equals word) (behind_equals word)
+link_library_of word = link_library_by (before_equals word) (after_equals word)
 
 abbrev pub link_library_word : ArgLinkLibrary → Bytes
 link_library_word l = with_equals l.kind l.name
@@ -71,7 +71,7 @@ link_path_by front None = record { kind = codes "all"; path = front }
 link_path_by front (Some back) = record { kind = front; path = back }
 
 abbrev pub link_path_of : Bytes → ArgLinkPath
-link_path_of word = link_path_by (before_equals word) (behind_equals word)
+link_path_of word = link_path_by (before_equals word) (after_equals word)
 
 abbrev pub link_path_word : ArgLinkPath → Bytes
 link_path_word l = with_equals l.kind l.path
@@ -80,14 +80,14 @@ abbrev pub link_path_in : ArgLinkPath → Option (Bytes × Bytes)
 link_path_in l = Some (with_equals l.kind [], l.path)
 
 abbrev pub option_of : Bytes → ArgOption
-option_of word = record { opt = before_equals word; value = behind_equals word }
+option_of word = record { opt = before_equals word; value = after_equals word }
 
 abbrev pub option_word : ArgOption → Bytes
 option_word o = maybe_with_equals o.opt o.value
 
 -- a word without `=` is refused; what it would say doesn't matter
 abbrev pub extern_of : Bytes → ArgExtern
-extern_of word = record { name = before_equals word; path = unwrap_or (behind_equals word) [] }
+extern_of word = record { name = before_equals word; path = unwrap_or (after_equals word) [] }
 
 abbrev pub extern_word : ArgExtern → Bytes
 extern_word e = with_equals e.name e.path
@@ -137,7 +137,7 @@ without_path None = Some (because (codes "an extern has no path"))
 without_path (Some path) = None
 
 abbrev pub refusal : ArgKind → Bytes → Option Refusal
-refusal kinds.Extern w = without_path (behind_equals w)
+refusal kinds.Extern w = without_path (after_equals w)
 refusal _ w = None
 
 -- what an option of that kind is with a word that it takes

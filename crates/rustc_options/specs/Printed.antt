@@ -3,7 +3,7 @@ use Rattle.std.specs.Prelude.{◌≡◌, ℕ, ◌==◌, Bool, true, false, [], �
 use Rattle.std.proofs.Common.{ap, sym, ◌∙◌}
 use Rattle.std.proofs.lemmas.Bool.{eqb-true, false≢true}
 use Rattle.base_files.specs.Bytes.{Bytes}
-use Rattle.rustc_options.specs.Splitting.{before_equals, behind_equals, with_equals, maybe_with_equals}
+use Rattle.rustc_options.specs.Splitting.{before_equals, after_equals, with_equals, maybe_with_equals}
 use Rattle.rustc_options.specs.Data.{data_of, word_of, refusal, prints_its_word, IsWordValue, target_word, without_path}
 use Rattle.rustc_options.specs.declared.kind.ArgKind.{ArgKind}
 use Rattle.rustc_options.specs.declared.kind.ArgKind.TheVariants as kinds
@@ -15,12 +15,12 @@ onto_both : (b : ℕ) (front : Bytes) (back : Option Bytes) → maybe_with_equal
 onto_both b front None = refl
 onto_both b front (Some back) = refl
 
-both_by : (b : ℕ) (bs : Bytes) (is : Bool) → (b == 61) ≡ is → maybe_with_equals (before_equals bs) (behind_equals bs) ≡ bs → maybe_with_equals (if is then [] else b ∷ before_equals bs) (if is then Some bs else behind_equals bs) ≡ b ∷ bs
+both_by : (b : ℕ) (bs : Bytes) (is : Bool) → (b == 61) ≡ is → maybe_with_equals (before_equals bs) (after_equals bs) ≡ bs → maybe_with_equals (if is then [] else b ∷ before_equals bs) (if is then Some bs else after_equals bs) ≡ b ∷ bs
 both_by b bs true is again = ap (λ c. c ∷ bs) (sym (eqb-true b 61 is))
-both_by b bs false is again = onto_both b (before_equals bs) (behind_equals bs) ∙ ap (λ cs. b ∷ cs) again
+both_by b bs false is again = onto_both b (before_equals bs) (after_equals bs) ∙ ap (λ cs. b ∷ cs) again
 
 -- a word that was cut in two, put together
-pub both_again : (word : Bytes) → maybe_with_equals (before_equals word) (behind_equals word) ≡ word
+pub both_again : (word : Bytes) → maybe_with_equals (before_equals word) (after_equals word) ≡ word
 both_again [] = refl
 both_again (b ∷ bs) = both_by b bs (b == 61) refl (both_again bs)
 
@@ -40,7 +40,7 @@ word_again kinds.NotCompilation word prints accepted = refl
 word_again kinds.LinkLibrary word prints accepted = absurd (false≢true prints)
 word_again kinds.LinkPath word prints accepted = absurd (false≢true prints)
 word_again kinds.Emit word prints accepted = refl
-word_again kinds.Extern word prints accepted = extern_by (before_equals word) (behind_equals word) accepted ∙ both_again word
+word_again kinds.Extern word prints accepted = extern_by (before_equals word) (after_equals word) accepted ∙ both_again word
 word_again kinds.Color word prints accepted = refl
 word_again kinds.Json word prints accepted = refl
 word_again kinds.CrateName word prints accepted = refl

@@ -8,9 +8,9 @@ before_equals [] = []
 before_equals (b ∷ bs) = if b == 61 then [] else b ∷ before_equals bs
 
 -- what comes after it
-abbrev pub behind_equals : Bytes → Option Bytes
-behind_equals [] = None
-behind_equals (b ∷ bs) = if b == 61 then Some bs else behind_equals bs
+abbrev pub after_equals : Bytes → Option Bytes
+after_equals [] = None
+after_equals (b ∷ bs) = if b == 61 then Some bs else after_equals bs
 
 abbrev pub with_equals : Bytes → Bytes → Bytes
 with_equals front back = front ++ 61 ∷ back

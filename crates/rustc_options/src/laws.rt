@@ -7,7 +7,7 @@ ghost use Rattle.std.specs.List.Sorted.{IsStrictlySortedBy};
 ghost use Rattle.std.specs.Ordering.{nat_cmp};
 ghost use Rattle.std.specs.Str.{bytes_eq};
 ghost use Rattle.base_files.specs.Bytes.{Bytes};
-ghost use Rattle.rustc_options.specs.Splitting.{behind_equals};
+ghost use Rattle.rustc_options.specs.Splitting.{after_equals};
 ghost use Rattle.rustc_options.specs.Data.{data_of, word_of, refusal, prints_its_word, printed_type};
 ghost use Rattle.rustc_options.specs.Sets.{between_commas, joined_by_commas, in_order};
 ghost use Rattle.rustc_options.specs.declared.kind.ArgKind.{ArgKind};
@@ -19,13 +19,13 @@ ghost use Rattle.rustc_options.specs.declared.kind.ArgKind.TheVariants.{CrateTyp
 pub fn words_are_printed_again()
     ensures word { (kind : ArgKind) (word : Bytes) → prints_its_word kind ≡ true
         → refusal kind word ≡ None → word_of (data_of kind word) ≡ word }
-    ensures library { (word back : Bytes) → behind_equals word ≡ Some back
+    ensures library { (word back : Bytes) → after_equals word ≡ Some back
         → word_of (data_of LinkLibrary word) ≡ word }
-    ensures bare_library { (word : Bytes) → behind_equals word ≡ None
+    ensures bare_library { (word : Bytes) → after_equals word ≡ None
         → word_of (data_of LinkLibrary word) ≡ codes "dylib=" ++ word }
-    ensures path { (word back : Bytes) → behind_equals word ≡ Some back
+    ensures path { (word back : Bytes) → after_equals word ≡ Some back
         → word_of (data_of LinkPath word) ≡ word }
-    ensures bare_path { (word : Bytes) → behind_equals word ≡ None
+    ensures bare_path { (word : Bytes) → after_equals word ≡ None
         → word_of (data_of LinkPath word) ≡ codes "all=" ++ word }
     ensures crate_types { (word : Bytes)
         → word_of (data_of CrateType word)

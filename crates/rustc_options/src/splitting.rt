@@ -1,7 +1,7 @@
 //! A word cut in two at its first `=`.
 
 ghost use Rattle.std.specs.Prelude.{◌≡◌, IfOk};
-ghost use Rattle.rustc_options.specs.Splitting.{before_equals, behind_equals, with_equals, maybe_with_equals};
+ghost use Rattle.rustc_options.specs.Splitting.{before_equals, after_equals, with_equals, maybe_with_equals};
 
 use base_files::OsBytes;
 use std::alloc::{AllocError, Global};
@@ -10,15 +10,15 @@ use std::alloc::{AllocError, Global};
 /// copied.
 pub fn split_at_equals(word: OsBytes) -> Result<(OsBytes, Option<OsBytes>), AllocError>
     ensures before { IfOk result (λ parts. parts.0 ≡ before_equals word) }
-    ensures behind { IfOk result (λ parts. parts.1 ≡ behind_equals word) }
+    ensures after { IfOk result (λ parts. parts.1 ≡ after_equals word) }
 {
     match word.as_bytes().iter().position(|byte| *byte == b'=') {
         None => Ok((word, None)),
         Some(at) => {
             let mut before = word.into_vec();
-            let behind = before.split_off(at + 1)?;
+            let after = before.split_off(at + 1)?;
             before.truncate(at);
-            Ok((OsBytes::from_vec(before), Some(OsBytes::from_vec(behind))))
+            Ok((OsBytes::from_vec(before), Some(OsBytes::from_vec(after))))
         }
     }
 }

@@ -205,7 +205,7 @@ impl IntoArg for ArgLinkLibrary {
 }
 
 /// A path after a name and a `=`, as text.
-fn behind_equals_to_string<F: FnMut(&[u8]) -> Option<String>>(
+fn after_equals_to_string<F: FnMut(&[u8]) -> Option<String>>(
     alloc: Global,
     name: &OsBytes,
     path: &OsBytes,
@@ -257,7 +257,7 @@ impl IntoArg for ArgLinkPath {
         alloc: Global,
         path_transformer: &mut F,
     ) -> ArgToStringResult {
-        behind_equals_to_string(alloc, &self.kind, &self.path, path_transformer)
+        after_equals_to_string(alloc, &self.kind, &self.path, path_transformer)
     }
 }
 
@@ -301,11 +301,11 @@ impl IntoArg for ArgOption {
 impl FromArg for ArgExtern {
     ghost use Rattle.std.specs.Prelude.{◌≡◌};
     ghost use Rattle.rustc_options.specs.Data.{extern_of, without_path};
-    ghost use Rattle.rustc_options.specs.Splitting.{behind_equals};
+    ghost use Rattle.rustc_options.specs.Splitting.{after_equals};
 
     ghost reads = { λ arg value. value ≡ extern_of arg };
 
-    ghost refusal = { λ arg. without_path (behind_equals arg) };
+    ghost refusal = { λ arg. without_path (after_equals arg) };
 
     fn process(arg: OsBytes) -> ArgParseResult<ArgExtern> {
         match split_at_equals(arg)? {
@@ -331,7 +331,7 @@ impl IntoArg for ArgExtern {
         alloc: Global,
         path_transformer: &mut F,
     ) -> ArgToStringResult {
-        behind_equals_to_string(alloc, &self.name, &self.path, path_transformer)
+        after_equals_to_string(alloc, &self.name, &self.path, path_transformer)
     }
 }
 

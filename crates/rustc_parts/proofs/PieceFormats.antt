@@ -12,7 +12,7 @@ use Rattle.base_formats.specs.Reading.{Read, ◌>>=◌, framed_at, taken_at, tim
 use Rattle.base_formats.specs.Spelling.{BothFit, FitsFrame, IfFits, framed, number}
 use Rattle.rustc_parts.specs.Formed.{IsDigest, is_digit}
 use Rattle.rustc_parts.specs.Material.{env_dep_bytes, joined, pair_bytes}
-use Rattle.rustc_parts.specs.Reading.{behind_at, byte_at, digest_at, each_at, env_dep_at, pair_at, optional_digest_at, valued, words_at}
+use Rattle.rustc_parts.specs.Reading.{after_at, byte_at, digest_at, each_at, env_dep_at, pair_at, optional_digest_at, valued, words_at}
 use Rattle.rustc_parts.specs.declared.parts.EnvDep.{EnvDep}
 
 IsBytes-drop : (n : ℕ) (bytes : Bytes) → IsBytes bytes → IsBytes (drop n bytes)
@@ -111,20 +111,20 @@ unfolding byte_at
 byte_again b rest = rw (eq-eqb b b refl) refl
 
 module _ {X : Type 0} (b : ℕ) (one : Bytes → Read X) (f : X → Bytes) (P : X → Type 0) (single : IsFormat one f P) where
-  behind_takes : (bytes : Bytes) (x : X × Bytes) → IsBytes bytes → behind_at b one bytes ≡ Some x → Takes bytes (b ∷ f x.0) x.1 × P x.0
-  unfolding behind_at
-  behind_takes bytes x fits e =
+  after_takes : (bytes : Bytes) (x : X × Bytes) → IsBytes bytes → after_at b one bytes ≡ Some x → Takes bytes (b ∷ f x.0) x.1 × P x.0
+  unfolding after_at
+  after_takes bytes x fits e =
       let first = bind_some (byte_at b bytes) one x e in
       let ta = byte_takes b bytes first.0 fits first.1 in
       let tb = single.takes first.0 x ta.rest_is first.2 in
       (Takes-then bytes (b ∷ []) first.0 (f x.0) x.1 ta tb.0, tb.1)
 
-  behind_again : (x : X) (rest : Bytes) → P x → behind_at b one ((b ∷ f x) ++ rest) ≡ Some (x, rest)
-  unfolding behind_at
-  behind_again x rest fits = rw (byte_again b (f x ++ rest)) (single.again x rest fits)
+  after_again : (x : X) (rest : Bytes) → P x → after_at b one ((b ∷ f x) ++ rest) ≡ Some (x, rest)
+  unfolding after_at
+  after_again x rest fits = rw (byte_again b (f x ++ rest)) (single.again x rest fits)
 
-  pub behind_format : IsFormat (behind_at b one) (λ x. b ∷ f x) P
-  behind_format = record { takes = behind_takes; again = behind_again }
+  pub after_format : IsFormat (after_at b one) (λ x. b ∷ f x) P
+  after_format = record { takes = after_takes; again = after_again }
 
 -- ---- a digest where there is one
 
@@ -168,9 +168,9 @@ front_is_bytes [] rest fits i = omega arith
 front_is_bytes (x ∷ a) rest fits zero = fits 0
 front_is_bytes (x ∷ a) rest fits (suc i) = front_is_bytes a rest (λ j. fits (suc j)) i
 
-behind_is_bytes : (a rest : Bytes) → IsBytes (a ++ rest) → IsBytes rest
-behind_is_bytes [] rest fits i = fits i
-behind_is_bytes (x ∷ a) rest fits i = behind_is_bytes a rest (λ j. fits (suc j)) i
+after_is_bytes : (a rest : Bytes) → IsBytes (a ++ rest) → IsBytes rest
+after_is_bytes [] rest fits i = fits i
+after_is_bytes (x ∷ a) rest fits i = after_is_bytes a rest (λ j. fits (suc j)) i
 
 abbrev pub AreWords : List ℕ → List Bytes → Type 0
 AreWords lengths ws = FitsFrame (joined ws) × (map length ws ≡ lengths)
@@ -182,7 +182,7 @@ words_takes lengths bytes x fits e =
     let b = bind_some (each_at taken_at lengths a.0.0) (λ words. cond (eqb (length words.1) 0) (Some (words.0, a.0.1)) None) x a.2 in
     let g = if_some (eqb (length b.0.1) 0) (Some (b.0.0, a.0.1)) x b.2 in
     let ta = framed_format.takes bytes a.0 fits a.1 in
-    let block_fits : IsBytes a.0.0 = front_is_bytes a.0.0 a.0.1 (behind_is_bytes (number (length a.0.0)) (a.0.0 ++ a.0.1) (subst IsBytes (ta.0.parts ∙ append_assoc (number (length a.0.0)) a.0.0 a.0.1) fits)) in
+    let block_fits : IsBytes a.0.0 = front_is_bytes a.0.0 a.0.1 (after_is_bytes (number (length a.0.0)) (a.0.0 ++ a.0.1) (subst IsBytes (ta.0.parts ∙ append_assoc (number (length a.0.0)) a.0.0 a.0.1) fits)) in
     let tb = (words_in_row lengths).takes a.0.0 b.0 block_fits b.1 in
     let none : b.0.1 ≡ [] = nil_from_length b.0.1 (eqb-true _ _ g.0) in
     let block : a.0.0 ≡ joined b.0.0 = tb.0.parts ∙ ap (λ (r : Bytes). joined b.0.0 ++ r) none ∙ append-nil (joined b.0.0) in
@@ -208,7 +208,7 @@ PairFits pair = BothFit FitsFrame FitsFrame pair
 
 pub pair_format : IsFormat pair_at pair_bytes PairFits
 unfolding pair_at
-pair_format = both_format _ _ _ _ _ _ framed_format (behind_format 61 _ _ _ framed_format)
+pair_format = both_format _ _ _ _ _ _ framed_format (after_format 61 _ _ _ framed_format)
 
 abbrev pub EnvDepFits : EnvDep → Type 0
 EnvDepFits dep = PairFits (dep.name, unwrap_or dep.value [])

@@ -16,7 +16,7 @@ use Rattle.rustc_parts.specs.Reading.{Files, Front, Surroundings, digest_at, fil
 use Rattle.rustc_parts.specs.Shapes.{shape_of}
 use Rattle.rustc_parts.specs.declared.parts.Parts.{Parts}
 use Rattle.rustc_parts.specs.declared.parts.RShape.{RShape}
-use Rattle.rustc_parts.proofs.PieceFormats.{AreWords, EnvDepFits, IsOptionalDigest, PairFits, behind_format, digest_format, each_format, env_dep_format, pair_format, row_format, optional_digest_format, words_format}
+use Rattle.rustc_parts.proofs.PieceFormats.{AreWords, EnvDepFits, IsOptionalDigest, PairFits, after_format, digest_format, each_format, env_dep_format, pair_format, row_format, optional_digest_format, words_format}
 use Rattle.rustc_parts.specs.Reading.{env_dep_at, pair_at}
 use Rattle.std.specs.Prelude.{is_some}
 
@@ -59,7 +59,7 @@ front_spelled f = 56 ∷ both joined (both (λ ws. framed (joined ws)) (both fil
 front_format : (width : ℕ) (s : RShape) → IsFormat (front_at width s) front_spelled (FrontFits width s)
 unfolding front_at
 front_format width s =
-    behind_format 56 _ _ _ (both_format _ _ _ _ _ _ (digests_format digest_digits s.toolchain) (both_format _ _ _ _ _ _ (words_format s.words) (both_format _ _ _ _ _ _ (files_format width s) (surroundings_format s))))
+    after_format 56 _ _ _ (both_format _ _ _ _ _ _ (digests_format digest_digits s.toolchain) (both_format _ _ _ _ _ _ (words_format s.words) (both_format _ _ _ _ _ _ (files_format width s) (surroundings_format s))))
 
 -- ---- the version
 
@@ -97,11 +97,11 @@ version_again t =
 
 -- ---- the pieces in a row
 
-behind_version : (tc w s e a t pr deps vars dir v : Bytes) → tc ++ w ++ (s ++ e ++ a ++ t ++ pr) ++ deps ++ vars ++ dir ++ v ++ (255 ∷ []) ≡ (tc ++ (w ++ ((s ++ (e ++ (a ++ (t ++ pr)))) ++ (deps ++ (vars ++ dir))))) ++ (v ++ (255 ∷ []))
-behind_version tc w s e a t pr deps vars dir v = simp append_assoc
+after_version : (tc w s e a t pr deps vars dir v : Bytes) → tc ++ w ++ (s ++ e ++ a ++ t ++ pr) ++ deps ++ vars ++ dir ++ v ++ (255 ∷ []) ≡ (tc ++ (w ++ ((s ++ (e ++ (a ++ (t ++ pr)))) ++ (deps ++ (vars ++ dir))))) ++ (v ++ (255 ∷ []))
+after_version tc w s e a t pr deps vars dir v = simp append_assoc
 
 in_row : (tc w s e a t pr deps vars dir v : Bytes) → (56 ∷ []) ++ tc ++ w ++ (s ++ e ++ a ++ t ++ pr) ++ deps ++ vars ++ dir ++ v ++ (255 ∷ []) ≡ (56 ∷ (tc ++ (w ++ ((s ++ (e ++ (a ++ (t ++ pr)))) ++ (deps ++ (vars ++ dir)))))) ++ (v ++ (255 ∷ []))
-in_row tc w s e a t pr deps vars dir v = ap (λ (x : Bytes). 56 ∷ x) (behind_version tc w s e a t pr deps vars dir v)
+in_row tc w s e a t pr deps vars dir v = ap (λ (x : Bytes). 56 ∷ x) (after_version tc w s e a t pr deps vars dir v)
 
 material_in_row : (p : Parts) → material_of p ≡ front_spelled (front_of p) ++ (p.version ++ (255 ∷ []))
 material_in_row p = in_row (joined p.toolchain) (framed (joined p.words)) (joined p.sources) (joined p.externs) (joined p.archives) (unwrap_or p.target []) (unwrap_or p.profile []) (flat_map env_dep_bytes p.env_deps) (flat_map pair_bytes p.variables) (framed p.dir) p.version

@@ -23,8 +23,8 @@ byte_at b [] = None
 byte_at b (first ∷ rest) = if first == b then Some rest else None
 
 -- this byte, and the field after it
-unfoldable pub behind_at : {X : Type 0} → ℕ → (Bytes → Read X) → Bytes → Read X
-behind_at b one bytes = do
+unfoldable pub after_at : {X : Type 0} → ℕ → (Bytes → Read X) → Bytes → Read X
+after_at b one bytes = do
   rest ← byte_at b bytes
   one rest
 
@@ -50,7 +50,7 @@ words_at lengths bytes = do
 
 -- a name, `=`, and a value
 unfoldable pub pair_at : Bytes → Read (Bytes × Bytes)
-pair_at = both_at framed_at (behind_at (byte "=") framed_at)
+pair_at = both_at framed_at (after_at (byte "=") framed_at)
 
 -- a value that is set, or the empty one that stands for none
 abbrev pub valued : Bool → Bytes → Option (Option Bytes)
@@ -85,7 +85,7 @@ Front = List Bytes × (List Bytes × (Files × Surroundings))
 
 unfoldable pub front_at : ℕ → RShape → Bytes → Read Front
 front_at width shape =
-    behind_at (byte "8") (both_at (times_at (digest_at digest_digits) shape.toolchain) (both_at (words_at shape.words) (both_at (files_at width shape) (surroundings_at shape))))
+    after_at (byte "8") (both_at (times_at (digest_at digest_digits) shape.toolchain) (both_at (words_at shape.words) (both_at (files_at width shape) (surroundings_at shape))))
 
 -- all that is left, less a last byte 255
 unfoldable pub version_at : Bytes → Option Bytes

@@ -23,7 +23,7 @@ const DIGEST_DIGITS: u64 = 64;
 
 /// What comes after this byte, where it is the first one.
 #[tactic(auto, unfolding(crate::specs::Reading::byte_at))]
-fn behind(first: u8, bytes: &[u8]) -> Result<&[u8], ReadFault>
+fn after(first: u8, bytes: &[u8]) -> Result<&[u8], ReadFault>
     ensures { Gives (λ rest. rest.now) result (byte_at first bytes.now) }
 {
     match bytes {
@@ -70,9 +70,9 @@ fn read_digests(
     let mut all = Vec::new(alloc);
     let mut rest = bytes;
     'digests: for _ in 0..count {
-        let (digest, behind) = read_digest(alloc, rest)?;
+        let (digest, after) = read_digest(alloc, rest)?;
         all.push(digest)?;
-        rest = behind;
+        rest = after;
     }
     Ok((Listed::from_vec(all), rest))
 }
@@ -113,9 +113,9 @@ fn read_each<'a>(
     let mut all = Vec::new(alloc);
     let mut rest = bytes;
     'words: for len in lengths {
-        let (word, behind) = read_word(alloc, *len, rest)?;
+        let (word, after) = read_word(alloc, *len, rest)?;
         all.push(word)?;
-        rest = behind;
+        rest = after;
     }
     Ok((Listed::from_vec(all), rest))
 }
@@ -138,12 +138,12 @@ fn read_words<'a>(
 }
 
 /// A name and a value, and the bytes after them. It takes no memory.
-#[tactic(auto, unfolding(crate::specs::Reading::pair_at, base_formats::specs::Reading::both_at, crate::specs::Reading::behind_at))]
+#[tactic(auto, unfolding(crate::specs::Reading::pair_at, base_formats::specs::Reading::both_at, crate::specs::Reading::after_at))]
 fn read_pair(bytes: &[u8]) -> Result<((&[u8], &[u8]), &[u8]), ReadFault>
     ensures { Gives (λ x. ((x.0.0.now, x.0.1.now), x.1.now)) result (pair_at bytes.now) }
 {
     let (name, rest) = read_framed(bytes)?;
-    let rest = behind(b'=', rest)?;
+    let rest = after(b'=', rest)?;
     let (value, rest) = read_framed(rest)?;
     Ok(((name, value), rest))
 }
@@ -183,9 +183,9 @@ fn read_env_deps<'a>(
     let mut all = Vec::new(alloc);
     let mut rest = bytes;
     'deps: for is_set in are_set {
-        let (dep, behind) = read_env_dep(alloc, *is_set, rest)?;
+        let (dep, after) = read_env_dep(alloc, *is_set, rest)?;
         all.push(dep)?;
-        rest = behind;
+        rest = after;
     }
     Ok((Listed::from_vec(all), rest))
 }
@@ -211,9 +211,9 @@ fn read_pairs(
     let mut all = Vec::new(alloc);
     let mut rest = bytes;
     'pairs: for _ in 0..count {
-        let (pair, behind) = read_variable(alloc, rest)?;
+        let (pair, after) = read_variable(alloc, rest)?;
         all.push(pair)?;
-        rest = behind;
+        rest = after;
     }
     Ok((Listed::from_vec(all), rest))
 }
@@ -324,11 +324,11 @@ fn read_version(alloc: Global, bytes: &[u8]) -> Result<OsBytes, ReadFault>
 }
 
 /// The pieces, whatever order their variables have.
-#[tactic(auto, unfolding(crate::specs::Reading::parts_at, crate::specs::Reading::front_at, crate::specs::Reading::behind_at, base_formats::specs::Reading::both_at))]
+#[tactic(auto, unfolding(crate::specs::Reading::parts_at, crate::specs::Reading::front_at, crate::specs::Reading::after_at, base_formats::specs::Reading::both_at))]
 fn read_parts(alloc: Global, bytes: &[u8], shape: &RShape) -> Result<Parts, ReadFault>
     ensures { Gives (λ parts. parts) result (parts_at digest_digits shape.now bytes.now) }
 {
-    let rest = behind(CACHE_VERSION, bytes)?;
+    let rest = after(CACHE_VERSION, bytes)?;
     let (toolchain, rest) = read_digests(alloc, shape.toolchain, rest)?;
     let (words, rest) = read_words(alloc, shape.words.as_slice(), rest)?;
     let (files, around, rest) = read_files_and_around(alloc, shape, rest)?;

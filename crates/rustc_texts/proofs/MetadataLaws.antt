@@ -9,10 +9,10 @@ use Rattle.std.proofs.lemmas.List.Folds.{list_any-append}
 use Rattle.std.proofs.lemmas.Map.Keys.{IsDistinct-head, IsDistinct-tail}
 use Rattle.std.proofs.lemmas.Slice.Eq.{bytes_eq-Decides}
 use Rattle.base_files.specs.Bytes.{Bytes}
-use Rattle.rustc_texts.specs.Outputs.{EndsInOne, behind_rlib, has_name, is_rlib, library, metadata, metadata_name, with_metadata, with_metadata_of, with_name, without_name}
+use Rattle.rustc_texts.specs.Outputs.{EndsInOne, after_rlib, has_name, is_rlib, library, metadata, metadata_name, with_metadata, with_metadata_of, with_name, without_name}
 
 -- its first `.rlib` is the one at its end
-renamed-by : (b : ℕ) (stem : Bytes) (begins : Bool) → (if begins then Some (drop 5 (b ∷ library stem)) else behind_rlib (library stem)) ≡ Some []
+renamed-by : (b : ℕ) (stem : Bytes) (begins : Bool) → (if begins then Some (drop 5 (b ∷ library stem)) else after_rlib (library stem)) ≡ Some []
     → (EndsInOne stem → metadata_name (library stem) ≡ metadata stem)
     → (if begins then codes ".rmeta" ++ drop 5 (b ∷ library stem) else b ∷ metadata_name (library stem)) ≡ b ∷ metadata stem
 renamed-by b stem true h more =
@@ -149,8 +149,8 @@ module _ (emit stems : List Bytes) (writes : has_name emit (codes "metadata") �
       ap (λ b. if b then fold (with_metadata_of (has_name emit (codes "link"))) (map library stems) (filter is_rlib (map library stems)) else map library stems) writes
       ∙ (λ i. fold (with_metadata_of (h i)) (map library stems) (all-libraries stems i))
 
-pub metadata-behind : (emit stems : List Bytes) → has_name emit (codes "metadata") ≡ true → has_name emit (codes "link") ≡ true → AllByRecursion EndsInOne stems → IsDistinct bytes_eq stems → with_metadata emit (map library stems) ≡ map library stems ++ map metadata stems
-metadata-behind emit stems writes links e d = by-links emit stems writes true links ∙ beside stems (map library stems) e d (none-of-metadata stems stems)
+pub metadata-after : (emit stems : List Bytes) → has_name emit (codes "metadata") ≡ true → has_name emit (codes "link") ≡ true → AllByRecursion EndsInOne stems → IsDistinct bytes_eq stems → with_metadata emit (map library stems) ≡ map library stems ++ map metadata stems
+metadata-after emit stems writes links e d = by-links emit stems writes true links ∙ beside stems (map library stems) e d (none-of-metadata stems stems)
 
 pub metadata-in-place : (emit stems : List Bytes) → has_name emit (codes "metadata") ≡ true → has_name emit (codes "link") ≡ false → AllByRecursion EndsInOne stems → IsDistinct bytes_eq stems → with_metadata emit (map library stems) ≡ map metadata stems
 metadata-in-place emit stems writes links e d =

@@ -34,14 +34,14 @@ onto-mark x y [] e f = rw (name_at-cons x (y ∷ []), e, name_at-cons y [], f) r
 onto-mark x y (part ∷ parts) e f = rw (name_at-cons x (y ∷ part), e, name_at-cons y part, f) refl
 
 -- places with the same byte and the same one after it make the same names
-same-onto : (before b next : ℕ) (parts : List (List Place)) → map name_at (onto_first (record { before = before; here = b; behind = next }) parts) ≡ map name_at (onto_first (record { before = 0; here = b; behind = next }) parts)
-same-onto before b next [] = rw (name_at-cons (record { before = before; here = b; behind = next }) [], name_at-cons (record { before = 0; here = b; behind = next }) []) refl
-same-onto before b next (part ∷ parts) = rw (name_at-cons (record { before = before; here = b; behind = next }) part, name_at-cons (record { before = 0; here = b; behind = next }) part) refl
+same-onto : (before b next : ℕ) (parts : List (List Place)) → map name_at (onto_first (record { before = before; here = b; after = next }) parts) ≡ map name_at (onto_first (record { before = 0; here = b; after = next }) parts)
+same-onto before b next [] = rw (name_at-cons (record { before = before; here = b; after = next }) [], name_at-cons (record { before = 0; here = b; after = next }) []) refl
+same-onto before b next (part ∷ parts) = rw (name_at-cons (record { before = before; here = b; after = next }) part, name_at-cons (record { before = 0; here = b; after = next }) part) refl
 
 -- the names of a byte after another one, once it is known whether a name ends there
 abbrev begun : ℕ → ℕ → Bytes → Bool → List Bytes
 begun before b bs t =
-    let place : Place = record { before = before; here = b; behind = unwrap_or (first_of bs) 0 } in
+    let place : Place = record { before = before; here = b; after = unwrap_or (first_of bs) 0 } in
     let parts = slice_split ends_name (placed b bs) in
     map name_at (cond t ([] ∷ parts) (onto_first place parts))
 
@@ -50,9 +50,9 @@ same-begun before b bs true = refl
 same-begun before b bs false = same-onto before b (unwrap_or (first_of bs) 0) (slice_split ends_name (placed b bs))
 
 -- names don't depend on what came before them, unless it is a backslash
-behind-any : (before : ℕ) (bs : Bytes) → (before == 92) ≡ false → all_names before bs ≡ all_names 0 bs
-behind-any before [] e = refl
-behind-any before (b ∷ bs) e = ap (λ t. begun before b bs ((b == 32) && not t)) e ∙ same-begun before b bs ((b == 32) && true)
+after-any : (before : ℕ) (bs : Bytes) → (before == 92) ≡ false → all_names before bs ≡ all_names 0 bs
+after-any before [] e = refl
+after-any before (b ∷ bs) e = ap (λ t. begun before b bs ((b == 32) && not t)) e ∙ same-begun before b bs ((b == 32) && true)
 
 -- nor do they before any byte but a space
 before-any : (before b : ℕ) (bs : Bytes) → (b == 32) ≡ false → all_names before (b ∷ bs) ≡ all_names 0 (b ∷ bs)
@@ -60,19 +60,19 @@ before-any before b bs e = ap (λ t. begun before b bs (t && not (before == 92))
 
 -- a space ends the first name
 pub space : (bs : Bytes) → all_names 0 (32 ∷ bs) ≡ [] ∷ all_names 0 bs
-space bs = ap (λ (names : List Bytes). [] ∷ names) (behind-any 32 bs refl)
+space bs = ap (λ (names : List Bytes). [] ∷ names) (after-any 32 bs refl)
 
 -- a space with a backslash before it goes on it
 pub escaped : (bs : Bytes) → all_names 0 (92 ∷ 32 ∷ bs) ≡ onto_first 32 (all_names 0 bs)
 escaped bs =
-    let x : Place = record { before = 0; here = 92; behind = 32 } in
-    let y : Place = record { before = 92; here = 32; behind = unwrap_or (first_of bs) 0 } in
-    onto-mark x y (slice_split ends_name (placed 32 bs)) refl refl ∙ ap (onto_first 32) (behind-any 32 bs refl)
+    let x : Place = record { before = 0; here = 92; after = 32 } in
+    let y : Place = record { before = 92; here = 32; after = unwrap_or (first_of bs) 0 } in
+    onto-mark x y (slice_split ends_name (placed 32 bs)) refl refl ∙ ap (onto_first 32) (after-any 32 bs refl)
 
 -- and so does any other byte
 pub letter : (b : ℕ) (bs : Bytes) → (b == 32) ≡ false → pointwise nat_eq (take 2 (b ∷ bs)) (92 ∷ 32 ∷ []) ≡ false → all_names 0 (b ∷ bs) ≡ onto_first b (all_names 0 bs)
 letter b bs e f =
-    let place : Place = record { before = 0; here = b; behind = unwrap_or (first_of bs) 0 } in
+    let place : Place = record { before = 0; here = b; after = unwrap_or (first_of bs) 0 } in
     ap (λ t. begun 0 b bs (t && true)) e ∙ onto-letter place (slice_split ends_name (placed b bs)) (counts bs f) ∙ ap (onto_first b) (same (b == 92) refl bs f)
   where
     counts : (bs : Bytes) → pointwise nat_eq (take 2 (b ∷ bs)) (92 ∷ 32 ∷ []) ≡ false → not (b == 92 && unwrap_or (first_of bs) 0 == 32) ≡ true
@@ -80,7 +80,7 @@ letter b bs e f =
     counts (c ∷ cs) f = grind (arith, f)
 
     same : (t : Bool) → (b == 92) ≡ t → (bs : Bytes) → pointwise nat_eq (take 2 (b ∷ bs)) (92 ∷ 32 ∷ []) ≡ false → all_names b bs ≡ all_names 0 bs
-    same false q bs f = behind-any b bs q
+    same false q bs f = after-any b bs q
     same true q [] f = refl
     same true q (c ∷ cs) f = before-any b c cs (grind (arith, q, f))
 
@@ -107,7 +107,7 @@ pub going_on-start : (bs : Bytes) → going_on [] (all_names 0 bs) ≡ all_names
 going_on-start [] = refl
 going_on-start (b ∷ bs) = by ((b == 32) && true) (slice_split ends_name (placed b bs))
   where
-    by : (t : Bool) (parts : List (List Place)) → going_on [] (map name_at (cond t ([] ∷ parts) (onto_first (record { before = 0; here = b; behind = unwrap_or (first_of bs) 0 }) parts))) ≡ map name_at (cond t ([] ∷ parts) (onto_first (record { before = 0; here = b; behind = unwrap_or (first_of bs) 0 }) parts))
+    by : (t : Bool) (parts : List (List Place)) → going_on [] (map name_at (cond t ([] ∷ parts) (onto_first (record { before = 0; here = b; after = unwrap_or (first_of bs) 0 }) parts))) ≡ map name_at (cond t ([] ∷ parts) (onto_first (record { before = 0; here = b; after = unwrap_or (first_of bs) 0 }) parts))
     by true parts = refl
     by false [] = refl
     by false (part ∷ parts) = refl
@@ -132,18 +132,18 @@ module _ (all names : List Bytes) (name rest : Bytes) (held : all ≡ names ++ g
       (ap (λ (bs : Bytes). going_on name (all_names 0 bs)) (marked rest e) ∙ ap (going_on name) (escaped (drop 2 rest)) ∙ going_on-letter name 32 (all_names 0 (drop 2 rest)) ∙ ap (λ (bs : Bytes). going_on (name ++ 32 ∷ []) (all_names 0 bs)) (sym q))
 
   -- a space that ends it
-  pub more-ended : (behind : Bytes) → rest ≡ 32 ∷ behind → all ≡ (names ++ name ∷ []) ++ going_on [] (all_names 0 behind)
-  more-ended behind e =
-      go (name ∷ all_names 0 behind)
-      (ap (λ (bs : Bytes). going_on name (all_names 0 bs)) e ∙ ap (going_on name) (space behind) ∙ going_on-end name (all_names 0 behind))
-      ∙ sym (append_assoc names (name ∷ []) (all_names 0 behind))
-      ∙ ap (λ (some : List Bytes). (names ++ name ∷ []) ++ some) (sym (going_on-start behind))
+  pub more-ended : (after : Bytes) → rest ≡ 32 ∷ after → all ≡ (names ++ name ∷ []) ++ going_on [] (all_names 0 after)
+  more-ended after e =
+      go (name ∷ all_names 0 after)
+      (ap (λ (bs : Bytes). going_on name (all_names 0 bs)) e ∙ ap (going_on name) (space after) ∙ going_on-end name (all_names 0 after))
+      ∙ sym (append_assoc names (name ∷ []) (all_names 0 after))
+      ∙ ap (λ (some : List Bytes). (names ++ name ∷ []) ++ some) (sym (going_on-start after))
 
   -- any other byte
-  pub more-letters : (b : ℕ) (behind : Bytes) → rest ≡ b ∷ behind → (b == 32) ≡ false → pointwise nat_eq (take 2 rest) (92 ∷ 32 ∷ []) ≡ false → all ≡ names ++ going_on (name ++ b ∷ []) (all_names 0 behind)
-  more-letters b behind e other f =
-      go (going_on (name ++ b ∷ []) (all_names 0 behind))
-      (ap (λ (bs : Bytes). going_on name (all_names 0 bs)) e ∙ ap (going_on name) (letter b behind other (ap (λ (bs : Bytes). pointwise nat_eq (take 2 bs) (92 ∷ 32 ∷ [])) (sym e) ∙ f)) ∙ going_on-letter name b (all_names 0 behind))
+  pub more-letters : (b : ℕ) (after : Bytes) → rest ≡ b ∷ after → (b == 32) ≡ false → pointwise nat_eq (take 2 rest) (92 ∷ 32 ∷ []) ≡ false → all ≡ names ++ going_on (name ++ b ∷ []) (all_names 0 after)
+  more-letters b after e other f =
+      go (going_on (name ++ b ∷ []) (all_names 0 after))
+      (ap (λ (bs : Bytes). going_on name (all_names 0 bs)) e ∙ ap (going_on name) (letter b after other (ap (λ (bs : Bytes). pointwise nat_eq (take 2 bs) (92 ∷ 32 ∷ [])) (sym e) ∙ f)) ∙ going_on-letter name b (all_names 0 after))
 
   -- no further byte
   pub no-more : length rest ≡ 0 → all ≡ names ++ name ∷ []

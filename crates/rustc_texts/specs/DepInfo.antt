@@ -8,9 +8,9 @@ use Rattle.base_files.specs.Bytes.{Bytes}
 use Rattle.base_files.specs.Path.{join}
 
 -- what comes after the first `: ` of a line
-abbrev pub behind_colon : Bytes → Option Bytes
-behind_colon [] = None
-behind_colon (b ∷ bs) = if starts_with nat_eq (b ∷ bs) (codes ": ") then Some (drop 2 (b ∷ bs)) else behind_colon bs
+abbrev pub after_colon : Bytes → Option Bytes
+after_colon [] = None
+after_colon (b ∷ bs) = if starts_with nat_eq (b ∷ bs) (codes ": ") then Some (drop 2 (b ∷ bs)) else after_colon bs
 
 abbrev pub first_of : {X : Type 0} → List X → Option X
 first_of [] = None
@@ -18,18 +18,18 @@ first_of (x ∷ xs) = Some x
 
 -- The rule of a text: what comes after the first `: ` of its first line. A line ends at 10, and a 13 right before that is no part of it.
 abbrev pub rule_of : Bytes → Option Bytes
-rule_of text = option_and_then behind_colon (first_of (lines text))
+rule_of text = option_and_then after_colon (first_of (lines text))
 
 -- a byte of a rule, between the one before it and the one after it, each 0 where there is none
 pub record Place : Type 0 where
   pub before : ℕ
   pub here : ℕ
-  pub behind : ℕ
+  pub after : ℕ
 
 -- the bytes of a list in their places, the first of them after this one
 abbrev pub placed : ℕ → Bytes → List Place
 placed before [] = []
-placed before (b ∷ bs) = record { before = before; here = b; behind = unwrap_or (first_of bs) 0 } ∷ placed b bs
+placed before (b ∷ bs) = record { before = before; here = b; after = unwrap_or (first_of bs) 0 } ∷ placed b bs
 
 -- a space ends a name, unless a backslash comes right before it
 abbrev pub ends_name : Place → Bool
@@ -37,7 +37,7 @@ ends_name place = place.here == byte " " && not (place.before == byte "\\")
 
 -- a backslash right before a space is no letter
 abbrev pub is_letter : Place → Bool
-is_letter place = not (place.here == byte "\\" && place.behind == byte " ")
+is_letter place = not (place.here == byte "\\" && place.after == byte " ")
 
 -- the name in these places
 abbrev pub name_at : List Place → Bytes

@@ -4,7 +4,7 @@ use Rattle.std.specs.List.{starts_with}
 use Rattle.std.specs.Option.{option_map}
 use Rattle.std.specs.Str.Lines.{lines}
 use Rattle.base_files.specs.Bytes.{Bytes}
-use Rattle.rustc_options.specs.Splitting.{before_equals, behind_equals}
+use Rattle.rustc_options.specs.Splitting.{before_equals, after_equals}
 use Rattle.rustc_parts.specs.declared.parts.EnvDep.{EnvDep}
 
 -- how a line begins that lists a variable
@@ -17,7 +17,7 @@ told_in line = if starts_with nat_eq line mark then Some (drop (length mark) lin
 
 -- a name, and a value after the first `=`; without a `=` it isn't set
 abbrev pub env_dep_of : Bytes → EnvDep
-env_dep_of told = record { name = before_equals told; value = behind_equals told }
+env_dep_of told = record { name = before_equals told; value = after_equals told }
 
 abbrev pub env_dep_in : Bytes → Option EnvDep
 env_dep_in line = option_map env_dep_of (told_in line)

@@ -116,10 +116,10 @@ abbrev pub metadata : Bytes → Bytes
 metadata stem = stem ++ codes ".rmeta"
 
 -- what comes after the first `.rlib` of a name
-abbrev pub behind_rlib : Bytes → Option Bytes
-behind_rlib [] = None
-behind_rlib (b ∷ bs) = if starts_with nat_eq (b ∷ bs) (codes ".rlib") then Some (drop 5 (b ∷ bs)) else behind_rlib bs
+abbrev pub after_rlib : Bytes → Option Bytes
+after_rlib [] = None
+after_rlib (b ∷ bs) = if starts_with nat_eq (b ∷ bs) (codes ".rlib") then Some (drop 5 (b ∷ bs)) else after_rlib bs
 
 -- the library has `.rlib` at its end alone
 abbrev pub EndsInOne : Bytes → Type 0
-EndsInOne stem = behind_rlib (library stem) ≡ Some []
+EndsInOne stem = after_rlib (library stem) ≡ Some []

@@ -4,7 +4,7 @@ use Rattle.std.specs.List.{after_first, before_first, flat_map, join_with_byte, 
 use Rattle.std.specs.Option.{option_map}
 use Rattle.std.specs.Str.{byte}
 use Rattle.base_files.specs.Bytes.{Bytes}
-use Rattle.rustc_texts.specs.DepInfo.{behind_colon}
+use Rattle.rustc_texts.specs.DepInfo.{after_colon}
 
 abbrev pub is_line_end : ℕ → Bool
 is_line_end b = b == byte "\n"
@@ -41,4 +41,4 @@ rules_of old targets extras = flat_map (rule_for (prerequisites old extras)) tar
 abbrev pub rewritten_of : Bytes → List Bytes → List Bytes → Option Bytes
 rewritten_of text targets extras =
     let rest = without_line_end (after_first is_line_end text) in
-    option_map (λ old. rules_of old targets extras ++ rest) (behind_colon (before_first is_line_end text))
+    option_map (λ old. rules_of old targets extras ++ rest) (after_colon (before_first is_line_end text))

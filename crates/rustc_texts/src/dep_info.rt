@@ -4,7 +4,7 @@ ghost use Rattle.std.specs.Prelude.{◌≡◌, ◌↔◌, None, IfOk, IfSome, Is
 ghost use Rattle.std.specs.List.Sorted.{IsSorted};
 ghost use Rattle.std.specs.Option.{option_copied};
 ghost use Rattle.base_files.specs.Path.{join, path_cmp};
-ghost use Rattle.rustc_texts.specs.DepInfo.{behind_colon, names_in, rule_of, sources_of};
+ghost use Rattle.rustc_texts.specs.DepInfo.{after_colon, names_in, rule_of, sources_of};
 ghost use Rattle.rustc_texts.specs.declared.fault.TextFault.TheVariants.{NoRule};
 
 use crate::fault::TextFault;
@@ -13,15 +13,15 @@ use std::alloc::{AllocError, Global};
 use std::mem;
 
 /// What comes after the first `: ` of a line.
-pub(crate) fn behind_colon(line: &[u8]) -> Option<&[u8]>
-    ensures { option_copied result ≡ behind_colon line.now }
+pub(crate) fn after_colon(line: &[u8]) -> Option<&[u8]>
+    ensures { option_copied result ≡ after_colon line.now }
 {
     let mut rest = line;
-    while let Some((_, behind)) = rest.split_first() {
+    while let Some((_, after)) = rest.split_first() {
         if let Some(rule) = rest.strip_prefix(b": ") {
             return Some(rule);
         }
-        rest = behind;
+        rest = after;
     }
     None
 }
@@ -30,7 +30,7 @@ pub(crate) fn behind_colon(line: &[u8]) -> Option<&[u8]>
 fn rule_of(text: &str) -> Option<&[u8]>
     ensures { option_copied result ≡ rule_of text.now }
 {
-    behind_colon(text.lines().next()?.as_bytes())
+    after_colon(text.lines().next()?.as_bytes())
 }
 
 /// The names of a rule: a space ends one, `\ ` is a space within one, and a last one that is empty is none.
@@ -40,16 +40,16 @@ fn names_in(alloc: Global, rule: &[u8]) -> Result<Vec<OsBytes>, AllocError>
     let mut names = Vec::new(alloc);
     let mut name = Vec::new(alloc);
     let mut rest = rule;
-    while let Some((byte, behind)) = rest.split_first() {
+    while let Some((byte, after)) = rest.split_first() {
         if let Some(later) = rest.strip_prefix(b"\\ ") {
             name.push(b' ')?;
             rest = later;
         } else if *byte == b' ' {
             names.push(OsBytes::from_vec(mem::replace(&mut name, Vec::new(alloc))))?;
-            rest = behind;
+            rest = after;
         } else {
             name.push(*byte)?;
-            rest = behind;
+            rest = after;
         }
     }
     if !name.is_empty() {

@@ -34,7 +34,7 @@ pub fn commands_open_nothing()
 /// For libraries that have `.rlib` at their ends alone, each once, metadata is that of each, with `.rmeta` in the place of `.rlib`:
 /// after all of them where they are linked, and else in their places.
 pub fn metadata_is_that_of_each_library()
-    ensures behind { (emit stems : List Bytes) → has_name emit (codes "metadata") ≡ true
+    ensures after { (emit stems : List Bytes) → has_name emit (codes "metadata") ≡ true
         → has_name emit (codes "link") ≡ true → AllByRecursion EndsInOne stems
         → IsDistinct bytes_eq stems
         → with_metadata emit (map library stems) ≡ map library stems ++ map metadata stems }

@@ -29,14 +29,14 @@ fn metadata_name(alloc: Global, library: &[u8]) -> Result<OsBytes, AllocError>
 {
     let mut name = Vec::with_capacity(alloc, library.len() + 1)?;
     let mut rest = library;
-    while let Some((byte, behind)) = rest.split_first() {
+    while let Some((byte, after)) = rest.split_first() {
         if let Some(ending) = rest.strip_prefix(b".rlib") {
             name.extend_from_slice(b".rmeta")?;
             name.extend_from_slice(ending)?;
             return Ok(OsBytes::from_vec(name));
         }
         name.push(*byte)?;
-        rest = behind;
+        rest = after;
     }
     Ok(OsBytes::from_vec(name))
 }

@@ -10,7 +10,7 @@ use base_files::{Listed, OsBytes};
 use std::alloc::{AllocError, Global};
 use std::collections::BTreeSet;
 
-/// The names that rustc tells: the lines of its answer, each once, where it stands first.
+/// The names that rustc prints: the lines of its answer, each once, where it comes first.
 fn named(alloc: Global, text: &str) -> Result<Vec<OsBytes>, AllocError>
     ensures { IfOk result (λ names. names.items ≡ named text.now) }
 {
@@ -79,7 +79,7 @@ fn without_binaries(
 
 /// The names of what a request writes that asks for these kinds of outputs, by rustc's answer to the question for its file names: a
 /// line of it is a name. Where only metadata and dependencies are written, names of binaries are left out. Metadata of a library is
-/// told beside the library where that is linked, and else in its place. Each name stands once, in rustc's order.
+/// listed after the library where that is linked, and else in its place. Each name is listed once, in rustc's order.
 pub fn output_names(
     alloc: Global,
     emit: &[OsBytes],

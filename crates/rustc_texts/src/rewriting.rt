@@ -6,7 +6,7 @@ ghost use Rattle.std.specs.Str.{byte};
 ghost use Rattle.rustc_texts.specs.Rewriting.{escaped, is_line_end, phony_rule, rewritten_of, rule_for, where_any, without_line_end};
 ghost use Rattle.rustc_texts.specs.declared.fault.TextFault.TheVariants.{NoRule};
 
-use crate::dep_info::behind_colon;
+use crate::dep_info::after_colon;
 use crate::fault::TextFault;
 use base_files::OsBytes;
 use std::alloc::{AllocError, Global};
@@ -126,7 +126,7 @@ pub fn dep_info_with_targets(
         ↔ (rewritten_of text.now targets.now extras.now ≡ None) }
 {
     let (line, rest) = first_line(text);
-    let old = behind_colon(line).ok_or(TextFault::NoRule)?;
+    let old = after_colon(line).ok_or(TextFault::NoRule)?;
     let extras = all_escaped(alloc, extras)?;
     let wanted = prerequisites(alloc, old, extras.as_slice())?;
     let mut written = Vec::new(alloc);

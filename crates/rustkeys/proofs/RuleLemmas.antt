@@ -14,7 +14,7 @@ use Rattle.ckeys_records.specs.declared.fault.Fault.{Fault}
 use Rattle.ckeys_records.specs.declared.fault.Fault.TheVariants.{NoRule}
 use Rattle.ckeys_records.specs.declared.step.Step.TheVariants.{DepInfo, FileNames}
 use Rattle.rustc_options.specs.Sets.{in_order}
-use Rattle.rustc_texts.specs.DepInfo.{behind_colon, first_of, rule_of}
+use Rattle.rustc_texts.specs.DepInfo.{after_colon, first_of, rule_of}
 use Rattle.rustc_texts.specs.Outputs.{has_name, targets_with}
 use Rattle.rustc_texts.specs.Rewriting.{is_line_end, rewritten_of}
 use Rattle.rustc_options.specs.Asks.{RustAsks}
@@ -55,36 +55,36 @@ starts_less (suc k) b [] h = h
 starts_less zero b (c ∷ line) h = and_false (nat_eq 58 b)
 starts_less (suc k) b (c ∷ line) h = h
 
-colon_in : (k : ℕ) (line : Bytes) → is_some (behind_colon (take k line)) ≡ true → is_some (behind_colon line) ≡ true
+colon_in : (k : ℕ) (line : Bytes) → is_some (after_colon (take k line)) ≡ true → is_some (after_colon line) ≡ true
 colon_in zero [] h = h
 colon_in (suc k) [] h = h
 colon_in zero (b ∷ line) h = cc
 colon_in (suc k) (b ∷ line) h = by (colon_in k line) (starts_with nat_eq (b ∷ line) (codes ": ")) refl
   where
     begun : Bytes → Bool → Bool
-    begun rest t = is_some (if t then Some (drop 2 (b ∷ rest)) else behind_colon rest)
+    begun rest t = is_some (if t then Some (drop 2 (b ∷ rest)) else after_colon rest)
 
-    by : (is_some (behind_colon (take k line)) ≡ true → is_some (behind_colon line) ≡ true) → (t : Bool) → starts_with nat_eq (b ∷ line) (codes ": ") ≡ t → is_some (behind_colon (b ∷ line)) ≡ true
+    by : (is_some (after_colon (take k line)) ≡ true → is_some (after_colon line) ≡ true) → (t : Bool) → starts_with nat_eq (b ∷ line) (codes ": ") ≡ t → is_some (after_colon (b ∷ line)) ≡ true
     by further true e = ap (begun line) e
     by further false e = ap (begun line) e ∙ further (sym (ap (begun (take k line)) (starts_less k b line e)) ∙ h)
 
-rule_in_part : (line : Bytes) (rest : List Bytes) → is_some (option_and_then behind_colon (first_of (lines_of_parts (line ∷ rest)))) ≡ true → is_some (behind_colon line) ≡ true
+rule_in_part : (line : Bytes) (rest : List Bytes) → is_some (option_and_then after_colon (first_of (lines_of_parts (line ∷ rest)))) ≡ true → is_some (after_colon line) ≡ true
 rule_in_part line [] h = by (length line == 0) h
   where
-    by : (t : Bool) → is_some (option_and_then behind_colon (first_of (if t then [] else line ∷ []))) ≡ true → is_some (behind_colon line) ≡ true
+    by : (t : Bool) → is_some (option_and_then after_colon (first_of (if t then [] else line ∷ []))) ≡ true → is_some (after_colon line) ≡ true
     by true e = cc
     by false e = e
 rule_in_part line (next ∷ rest) h = by (slice_index line (length line - 1) == 13) h
   where
-    by : (t : Bool) → is_some (behind_colon (if t then take (length line - 1) line else line)) ≡ true → is_some (behind_colon line) ≡ true
+    by : (t : Bool) → is_some (after_colon (if t then take (length line - 1) line else line)) ≡ true → is_some (after_colon line) ≡ true
     by true e = colon_in (length line - 1) line e
     by false e = e
 
 -- a text with a rule has it before its first line end
-rule_stands : (text : Bytes) → is_some (rule_of text) ≡ true → is_some (behind_colon (before_first is_line_end text)) ≡ true
+rule_stands : (text : Bytes) → is_some (rule_of text) ≡ true → is_some (after_colon (before_first is_line_end text)) ≡ true
 rule_stands text h =
     let parts = first_part is_line_end text in
-    rule_in_part (before_first is_line_end text) parts.0 (ap (λ (all : List Bytes). is_some (option_and_then behind_colon (first_of (lines_of_parts all)))) (sym parts.1) ∙ h)
+    rule_in_part (before_first is_line_end text) parts.0 (ap (λ (all : List Bytes). is_some (option_and_then after_colon (first_of (lines_of_parts all)))) (sym parts.1) ∙ h)
 
 has_rule : (text : Bytes) → rule_fault_of text ≡ None → is_some (rule_of text) ≡ true
 has_rule text h = by (rule_of text) h
@@ -98,7 +98,7 @@ map_some f None h = h
 map_some f (Some x) h = refl
 
 pub rewritten_where_ruled : (text : Bytes) (targets extras : List Bytes) → rule_fault_of text ≡ None → is_some (rewritten_of text targets extras) ≡ true
-rewritten_where_ruled text targets extras fine = map_some _ (behind_colon (before_first is_line_end text)) (rule_stands text (has_rule text fine))
+rewritten_where_ruled text targets extras fine = map_some _ (after_colon (before_first is_line_end text)) (rule_stands text (has_rule text fine))
 
 -- without a fault of its rule a text is given exactly where one is asked for
 pub told_where_asked : (asks : RustAsks) (archive : Option Bytes) (text : Bytes) (names : List Bytes) → rule_fault_of text ≡ None → is_some (dep_info_by asks archive text names) ≡ is_some asks.dep_info

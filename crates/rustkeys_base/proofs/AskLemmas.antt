@@ -6,7 +6,7 @@ use Rattle.base_files.specs.Bytes.{Bytes}
 use Rattle.base_files.specs.Tree.{Tree}
 use Rattle.cmdlines_base.specs.Pieces.{part_word, parts_as}
 use Rattle.cmdlines_base.specs.Printing.{printed_as}
-use Rattle.cmdlines_base.specs.Reading.{Item, raw, unknown, flag, valued, behind_dashes}
+use Rattle.cmdlines_base.specs.Reading.{Item, raw, unknown, flag, valued, after_dashes}
 use Rattle.cmdlines_base.specs.declared.argument.ArgDisposition.{ArgDisposition}
 use Rattle.cmdlines_base.specs.declared.argument.ArgDisposition.TheVariants.{Separated, CanBeConcatenated, CanBeSeparated, Concatenated}
 use Rattle.cmdlines_base.specs.declared.argument.Argument.{Argument}
@@ -47,10 +47,10 @@ said-is (valued f k w d) (arguments.Flag g t) h = absurd h
 said-is (valued f k w d) (arguments.WithValue g t e) h =
     let words : map (part_word word_of) (parts_as g.now t e) ≡ printed_as f (word_of (data_of k w)) d = printed-parts g.now t e ∙ (λ i. printed_as (h.0 i) (word_of (h.1.0 i)) (h.2 i)) in
     λ i. record { flag = Some (h.0 i); words = words i }
-said-is (behind_dashes w) (arguments.Raw v) h = λ i. record { flag = None; words = h i ∷ [] }
-said-is (behind_dashes w) (arguments.UnknownFlag v) h = absurd h
-said-is (behind_dashes w) (arguments.Flag g t) h = absurd h
-said-is (behind_dashes w) (arguments.WithValue g t e) h = absurd h
+said-is (after_dashes w) (arguments.Raw v) h = λ i. record { flag = None; words = h i ∷ [] }
+said-is (after_dashes w) (arguments.UnknownFlag v) h = absurd h
+said-is (after_dashes w) (arguments.Flag g t) h = absurd h
+said-is (after_dashes w) (arguments.WithValue g t e) h = absurd h
 
 all-said : (items : List (Item ArgKind)) (found : List (Argument ArgData)) → AllZip IsArgument items found → map said_in found ≡ map said_of items
 all-said [] [] h = refl

@@ -14,7 +14,7 @@ use Rattle.rustc_options.specs.declared.data.ArgData.TheVariants as values
 use Rattle.rustc_options.specs.declared.kind.ArgKind.{ArgKind}
 use Rattle.rustkeys_base.specs.Facts.{facts_of, facts_with, no_facts}
 use Rattle.rustkeys_base.specs.Saying.{Token, loose, says, unread, token_of}
-use Rattle.rustkeys_base.specs.Parsing.{Decision, asks, not_compilation, cannot_cache, closing, codegen_decides, decides, decides_behind, decision_on, first_given, is_misread, is_unsure, not_parsed, other_types, second_input, unless_decided}
+use Rattle.rustkeys_base.specs.Parsing.{Decision, asks, not_compilation, cannot_cache, closing, codegen_decides, decides, decides_after, decision_on, first_given, is_misread, is_unsure, not_parsed, other_types, second_input, unless_decided}
 use Rattle.rustkeys_base.specs.declared.facts.Facts.{Facts}
 use Rattle.rustkeys_base.specs.Deciders.{NoneDecides}
 use Rattle.rustkeys_base.proofs.FactLemmas.{facts-more, facts-none, facts-of}
@@ -142,19 +142,19 @@ module _ (dir : Bytes) (files : Tree) where
   joined None p d = refl
   joined (Some decision) p d = refl
 
-  abbrev behind : Facts → List (Item ArgKind) → Item ArgKind → Option Decision
-  behind f earlier item = decided (facts_with f (map token_of earlier)) item
+  abbrev after : Facts → List (Item ArgKind) → Item ArgKind → Option Decision
+  after f earlier item = decided (facts_with f (map token_of earlier)) item
 
   abbrev closed : Facts → Bool → Decision
   closed f cut = if cut then not_parsed else closing f
 
-  first_from : (items : List (Item ArgKind)) (f : Facts) (cut : Bool) → decision_from dir files f items cut ≡ unless_decided (first_given (behind f) items) (closed (facts_with f (map token_of items)) cut)
+  first_from : (items : List (Item ArgKind)) (f : Facts) (cut : Bool) → decision_from dir files f items cut ≡ unless_decided (first_given (after f) items) (closed (facts_with f (map token_of items)) cut)
   first_from [] f cut = ap (λ g. closed g cut) (sym (facts-none f))
   first_from (item ∷ items) f cut =
       let none = sym (facts-none f) in
       one f item items cut (decided f item) refl
       ∙ ap (unless_decided (decided f item)) (first_from items (onto f item) cut)
-      ∙ joined (decided f item) (first_given (behind (onto f item)) items) (closed (facts_with (onto f item) (map token_of items)) cut)
+      ∙ joined (decided f item) (first_given (after (onto f item)) items) (closed (facts_with (onto f item) (map token_of items)) cut)
       ∙ (λ i. unless_decided (sooner (decided (none i) item) (first_given (λ earlier other. decided (facts-more f (token_of item) (map token_of earlier) i) other) items)) (closed (facts-more f (token_of item) (map token_of items) i) cut))
 
   -- the decision that is come to item by item is that of the first item that decides, or of all of them
@@ -166,7 +166,7 @@ module _ (dir : Bytes) (files : Tree) where
   nones_from : (items : List (Item ArgKind)) → NoneDecides dir files items → NoneFrom no_facts items
   nones_from items nones earlier item later e = ap (λ f. decided f item) (facts-of (map token_of earlier)) ∙ nones earlier item later e
 
-  pub first_decides : (earlier later : List (Item ArgKind)) (item : Item ArgKind) (cut : Bool) (decision : Decision) → NoneDecides dir files earlier → decides_behind dir files earlier item ≡ Some decision → decision_on dir files (record { items = earlier ++ item ∷ later; cut_short = cut }) ≡ decision
+  pub first_decides : (earlier later : List (Item ArgKind)) (item : Item ArgKind) (cut : Bool) (decision : Decision) → NoneDecides dir files earlier → decides_after dir files earlier item ≡ Some decision → decision_on dir files (record { items = earlier ++ item ∷ later; cut_short = cut }) ≡ decision
   first_decides earlier later item cut decision nones h =
       sym (decision_is (earlier ++ item ∷ later) cut)
       ∙ first_decides_from earlier later item cut decision (nones_from earlier nones) (ap (λ f. decided f item) (facts-of (map token_of earlier)) ∙ h)

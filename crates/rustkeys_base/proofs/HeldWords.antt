@@ -19,8 +19,8 @@ module _ (word : Bytes) where
   from_start text occurs = (bytes_eq-Decides word (take (length word) text)).1 (sym (OccursAt-part text word 0 occurs))
 
   -- an occurrence after the first byte is one in the rest
-  behind : (b : ℕ) (text : Bytes) (k : ℕ) → OccursAt text word k → OccursAt (b ∷ text) word (suc k)
-  behind b text k occurs = record { fits = omega (arith, occurs.fits); reads = λ j l. rw suc-add (occurs.reads j l) }
+  after : (b : ℕ) (text : Bytes) (k : ℕ) → OccursAt text word k → OccursAt (b ∷ text) word (suc k)
+  after b text k occurs = record { fits = omega (arith, occurs.fits); reads = λ j l. rw suc-add (occurs.reads j l) }
 
   in_rest : (b : ℕ) (text : Bytes) (k : ℕ) → OccursAt (b ∷ text) word (suc k) → OccursAt text word k
   in_rest b text k occurs = record { fits = omega (arith, occurs.fits); reads = λ j l. simp suc-add at (occurs.reads j l) }
@@ -37,7 +37,7 @@ module _ (word : Bytes) where
 
   place_or : (b : ℕ) (text : Bytes) (starts : Bool) → starts_with nat_eq (b ∷ text) word ≡ starts → starts || holds word text ≡ true → (holds word text ≡ true → (k : ℕ) × OccursAt text word k) → (k : ℕ) × OccursAt (b ∷ text) word k
   place_or b text true q h later = (0, at_start (b ∷ text) q)
-  place_or b text false q h later = let place = later h in (suc place.0, behind b text place.0 place.1)
+  place_or b text false q h later = let place = later h in (suc place.0, after b text place.0 place.1)
 
   place-from_holds : (text : Bytes) → holds word text ≡ true → (k : ℕ) × OccursAt text word k
   place-from_holds [] h = (0, at_start [] h)

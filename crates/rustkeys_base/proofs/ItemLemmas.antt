@@ -3,7 +3,7 @@ use Rattle.std.proofs.Common.{◌≡◌, Bool, true, false, List, [], ◌∷◌,
 use Rattle.std.specs.List.{AllZip}
 use Rattle.cmdlines_base.specs.Pieces.{normalized}
 use Rattle.cmdlines_base.specs.Printing.{normalized_disposition}
-use Rattle.cmdlines_base.specs.Reading.{Item, raw, unknown, flag, valued, behind_dashes}
+use Rattle.cmdlines_base.specs.Reading.{Item, raw, unknown, flag, valued, after_dashes}
 use Rattle.cmdlines_base.specs.declared.argument.Argument.{Argument}
 use Rattle.cmdlines_base.specs.declared.argument.Argument.TheVariants as arguments
 use Rattle.cmdlines_base.specs.declared.argument.NormalizedDisposition.TheVariants.{Separated}
@@ -30,10 +30,10 @@ token_is (valued f k w d) (arguments.Raw v) h = absurd h
 token_is (valued f k w d) (arguments.UnknownFlag v) h = absurd h
 token_is (valued f k w d) (arguments.Flag g t) h = absurd h
 token_is (valued f k w d) (arguments.WithValue g t e) h = λ i. says (h.0 i) (h.1.0 i)
-token_is (behind_dashes w) (arguments.Raw v) h = ap loose h
-token_is (behind_dashes w) (arguments.UnknownFlag v) h = absurd h
-token_is (behind_dashes w) (arguments.Flag g t) h = absurd h
-token_is (behind_dashes w) (arguments.WithValue g t e) h = absurd h
+token_is (after_dashes w) (arguments.Raw v) h = ap loose h
+token_is (after_dashes w) (arguments.UnknownFlag v) h = absurd h
+token_is (after_dashes w) (arguments.Flag g t) h = absurd h
+token_is (after_dashes w) (arguments.WithValue g t e) h = absurd h
 
 -- each is separate from its value
 pub apart_is : (item : Item ArgKind) (argument : Argument ArgData) → IsArgument item argument → IsArgument (apart item) (normalized Separated argument)
@@ -53,10 +53,10 @@ apart_is (valued f k w d) (arguments.Raw v) h = absurd h
 apart_is (valued f k w d) (arguments.UnknownFlag v) h = absurd h
 apart_is (valued f k w d) (arguments.Flag g t) h = absurd h
 apart_is (valued f k w d) (arguments.WithValue g t e) h = (h.0, h.1, ap (normalized_disposition Separated) h.2)
-apart_is (behind_dashes w) (arguments.Raw v) h = h
-apart_is (behind_dashes w) (arguments.UnknownFlag v) h = absurd h
-apart_is (behind_dashes w) (arguments.Flag g t) h = absurd h
-apart_is (behind_dashes w) (arguments.WithValue g t e) h = absurd h
+apart_is (after_dashes w) (arguments.Raw v) h = h
+apart_is (after_dashes w) (arguments.UnknownFlag v) h = absurd h
+apart_is (after_dashes w) (arguments.Flag g t) h = absurd h
+apart_is (after_dashes w) (arguments.WithValue g t e) h = absurd h
 
 module _ (items : List (Item ArgKind)) (item : Item ArgKind) (argument : Argument ArgData) (is : IsArgument item argument) where
   -- an argument on colours isn't wanted, and any other comes before those that are

@@ -4,7 +4,7 @@ use Rattle.base_files.specs.Bytes.{Bytes}
 use Rattle.base_files.specs.Path.{path_cmp}
 use Rattle.base_files.specs.Tree.{Tree}
 use Rattle.cmdlines_base.specs.Printing.{printed_as}
-use Rattle.cmdlines_base.specs.Reading.{Item, raw, unknown, flag, valued, behind_dashes}
+use Rattle.cmdlines_base.specs.Reading.{Item, raw, unknown, flag, valued, after_dashes}
 use Rattle.cmdlines_base.specs.declared.compiler_arguments.CompilerArguments.{CompilerArguments}
 use Rattle.cmdlines_base.specs.declared.compiler_arguments.CompilerArguments.TheVariants as answers
 use Rattle.rustc_options.specs.Data.{data_of, word_of}
@@ -25,7 +25,7 @@ said_of (raw w) = record { flag = None; words = w ∷ [] }
 said_of (unknown w) = record { flag = None; words = w ∷ [] }
 said_of (flag f k) = record { flag = Some f; words = f ∷ [] }
 said_of (valued f k w d) = record { flag = Some f; words = printed_as f (word_of (data_of k w)) d }
-said_of (behind_dashes w) = record { flag = None; words = w ∷ [] }
+said_of (after_dashes w) = record { flag = None; words = w ∷ [] }
 
 -- What items ask for that say all that a request needs, from this directory, with these files; externs are in the order of paths.
 abbrev pub asks_by : Bytes → Tree → List (Item ArgKind) → Facts → RustAsks

@@ -6,7 +6,7 @@ use Rattle.std.specs.Str.{is_utf8}
 use Rattle.base_files.specs.Bytes.{Bytes}
 use Rattle.base_files.specs.Path.{join}
 use Rattle.base_files.specs.Tree.{Tree, contents_at}
-use Rattle.cmdlines_response_files.specs.Styles.{behind}
+use Rattle.cmdlines_response_files.specs.Styles.{after}
 use Rattle.rustkeys_base.specs.Lines.{rustc_lines}
 
 -- whether the word names a response file
@@ -15,7 +15,7 @@ names_file word = starts_with nat_eq word (codes "@")
 
 -- the path of the response file that a word names, in that directory
 abbrev pub path_of : Bytes → Bytes → Option Bytes
-path_of dir word = option_map (join dir) (behind (codes "@") word)
+path_of dir word = option_map (join dir) (after (codes "@") word)
 
 -- the words of a text: one that isn't UTF-8 has none
 abbrev pub words_of_text : Bytes → Option (List Bytes)

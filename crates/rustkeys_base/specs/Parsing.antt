@@ -127,8 +127,8 @@ abbrev pub is_misread : Item ArgKind → Bool
 is_misread item = is_some (refusal_of (values_by IsFlagValue IsWordValue refusal) item)
 
 -- What an item decides after those that come before it: one whose value is refused does.
-abbrev pub decides_behind : Bytes → Tree → List (Item ArgKind) → Item ArgKind → Option Decision
-decides_behind dir files earlier item =
+abbrev pub decides_after : Bytes → Tree → List (Item ArgKind) → Item ArgKind → Option Decision
+decides_after dir files earlier item =
     let so_far = facts_of (map token_of earlier) in
     if is_misread item then Some not_parsed else decides dir files so_far (token_of item)
 
@@ -142,16 +142,16 @@ unless_decided None later = later
 unless_decided (Some decision) later = decision
 
 -- A first word `rustc`, which a wrapper leaves there, is none of the request's.
-abbrev pub behind_rustc : List Bytes → List Bytes
-behind_rustc [] = []
-behind_rustc (word ∷ words) = if bytes_eq word (codes "rustc") then words else word ∷ words
+abbrev pub after_rustc : List Bytes → List Bytes
+after_rustc [] = []
+after_rustc (word ∷ words) = if bytes_eq word (codes "rustc") then words else word ∷ words
 
 -- what the request's words are read as
 abbrev pub request_reading : List Bytes → Reading ArgKind
-request_reading words = rustc_reading (behind_rustc words)
+request_reading words = rustc_reading (after_rustc words)
 
 -- The first item that decides does; else words that are cut short do; else the closing rules, on all that the items say.
 abbrev pub decision_on : Bytes → Tree → Reading ArgKind → Decision
 decision_on dir files r =
-    unless_decided (first_given (decides_behind dir files) r.items)
+    unless_decided (first_given (decides_after dir files) r.items)
     (if r.cut_short then not_parsed else closing (facts_of (map token_of r.items)))

@@ -2,7 +2,7 @@
 use Rattle.std.specs.Prelude.{Bool, true, false, ◌&&◌, ◌||◌, Option, None, Some, codes, if◌then◌else◌}
 use Rattle.std.specs.Str.{bytes_eq}
 use Rattle.base_files.specs.Bytes.{Bytes}
-use Rattle.cmdlines_base.specs.Reading.{Item, raw, unknown, flag, valued, behind_dashes}
+use Rattle.cmdlines_base.specs.Reading.{Item, raw, unknown, flag, valued, after_dashes}
 use Rattle.cmdlines_base.specs.declared.argument.Argument.{Argument}
 use Rattle.cmdlines_base.specs.declared.argument.Argument.TheVariants as arguments
 use Rattle.cmdlines_base.specs.Choices.{when}
@@ -23,7 +23,7 @@ token_of (raw w) = loose w
 token_of (unknown w) = unread
 token_of (flag f k) = says f (flag_data k)
 token_of (valued f k w d) = says f (data_of k w)
-token_of (behind_dashes w) = loose w
+token_of (after_dashes w) = loose w
 
 -- the same of an argument
 abbrev pub token_in : Argument ArgData → Token

@@ -8,7 +8,7 @@ ghost use Rattle.base_files.specs.Bytes.{Bytes};
 ghost use Rattle.base_files.specs.Tree.{Tree};
 ghost use Rattle.base_files.specs.Views.{FilesFail};
 ghost use Rattle.cmdlines_response_files.specs.Causes.{CauseOf};
-ghost use Rattle.cmdlines_response_files.specs.Styles.{behind};
+ghost use Rattle.cmdlines_response_files.specs.Styles.{after};
 ghost use Rattle.cmdlines_response_files.specs.Words.{Gives, Takes};
 ghost use Rattle.rustkeys_base.specs.Asking.{IsNamedIn};
 ghost use Rattle.rustkeys_base.specs.Expansion.{expanded_by_rustc, names_file, opened_by, path_of, words_of_text};
@@ -21,8 +21,8 @@ use std::alloc::{AllocError, Global};
 use std::vec::IntoIter;
 
 /// What comes after the `@` that a word begins with.
-fn behind_at(word: &[u8]) -> Option<&[u8]>
-    ensures { option_copied result ≡ behind (codes "@") word.now }
+fn after_at(word: &[u8]) -> Option<&[u8]>
+    ensures { option_copied result ≡ after (codes "@") word.now }
 {
     word.strip_prefix(b"@")
 }
@@ -31,7 +31,7 @@ fn behind_at(word: &[u8]) -> Option<&[u8]>
 fn path_of(alloc: Global, dir: &OsBytes, word: &OsBytes) -> Result<Option<OsBytes>, AllocError>
     ensures { IfOk result (λ path. path ≡ path_of dir.now word.now) }
 {
-    match behind_at(word.as_bytes()) {
+    match after_at(word.as_bytes()) {
         Some(name) => Ok(Some(join(alloc, dir.as_bytes(), name)?)),
         None => Ok(None),
     }

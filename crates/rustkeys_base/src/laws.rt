@@ -8,7 +8,7 @@ ghost use Rattle.rustc_options.specs.declared.kind.ArgKind.{ArgKind};
 ghost use Rattle.rustkeys_base.specs.Deciders.{NoneDecides};
 ghost use Rattle.rustkeys_base.specs.Facts.{facts_of};
 ghost use Rattle.rustkeys_base.specs.Saying.{token_of};
-ghost use Rattle.rustkeys_base.specs.Parsing.{Decision, asks, closing, decides_behind, not_parsed, decision_on};
+ghost use Rattle.rustkeys_base.specs.Parsing.{Decision, asks, closing, decides_after, not_parsed, decision_on};
 
 /// The first item that decides does, and one whose value is refused decides too; where none does, words that are cut short do, and
 /// else the closing rules. Something is asked for only where no item decides, the words are whole, and the closing rules ask for it.
@@ -16,7 +16,7 @@ pub fn first_that_decides_does()
     ensures item { (dir : Bytes) (files : Tree) (earlier later : List (Item ArgKind))
         (item : Item ArgKind)
         → (cut_short : Bool) (decision : Decision) → NoneDecides dir files earlier
-        → decides_behind dir files earlier item ≡ Some decision
+        → decides_after dir files earlier item ≡ Some decision
         → decision_on dir files (record { items = earlier ++ item ∷ later; cut_short = cut_short })
         ≡ decision }
     ensures cut_short { (dir : Bytes) (files : Tree) (items : List (Item ArgKind))

@@ -32,13 +32,13 @@ fn file_name(
     alloc: Global,
     before: &[u8],
     name: &OsBytes,
-    behind: &[u8],
+    after: &[u8],
 ) -> Result<OsBytes, AllocError>
-    ensures { IfOk result (λ joined. joined ≡ before.now ++ (name.now ++ behind.now)) }
+    ensures { IfOk result (λ joined. joined ≡ before.now ++ (name.now ++ after.now)) }
 {
     let mut text = Vec::from_slice(alloc, before)?;
     text.extend_from_slice(name.as_bytes())?;
-    text.extend_from_slice(behind)?;
+    text.extend_from_slice(after)?;
     Ok(OsBytes::from_vec(text))
 }
 

@@ -11,7 +11,7 @@ ghost use Rattle.rustkeys_base.specs.Asks.{AsksFor, asks_of};
 ghost use Rattle.rustkeys_base.specs.Facts.{no_facts, facts_with};
 ghost use Rattle.rustkeys_base.specs.Requests.{Gathers, IsAsked, kept_with};
 ghost use Rattle.rustkeys_base.specs.Saying.{token_in};
-ghost use Rattle.rustkeys_base.specs.Parsing.{behind_rustc, decides, request_reading, decision_of, decision_of_refusal, decision_on, not_parsed};
+ghost use Rattle.rustkeys_base.specs.Parsing.{after_rustc, decides, request_reading, decision_of, decision_of_refusal, decision_on, not_parsed};
 
 use crate::closing::close;
 use crate::deciding::{Refusal, decides, refused};
@@ -27,8 +27,8 @@ use rustc_options::{ArgData, rustc_table};
 use std::alloc::{AllocError, Global};
 
 /// The words of the request: a first word `rustc`, which a wrapper leaves there, is none of them.
-fn behind_rustc(words: &[OsBytes]) -> &[OsBytes]
-    ensures { result.now ≡ behind_rustc words.now }
+fn after_rustc(words: &[OsBytes]) -> &[OsBytes]
+    ensures { result.now ≡ after_rustc words.now }
 {
     match words.split_first() {
         Some((word, rest)) if word.as_bytes() == b"rustc".as_slice() => rest,
@@ -206,14 +206,7 @@ fn parse<F: Files>(
 {
     let mut facts = Facts::new(alloc);
     let mut kept = Listed::new(alloc);
-    match gather_words(
-        alloc,
-        behind_rustc(words),
-        dir,
-        &mut facts,
-        &mut kept,
-        files,
-    ) {
+    match gather_words(alloc, after_rustc(words), dir, &mut facts, &mut kept, files) {
         Ok(None) => close(alloc, dir, facts, kept, files),
         Ok(Some(why)) => {
             drop(facts);

@@ -11,38 +11,38 @@ use Rattle.sccache_recorded_builds.specs.declared.entry.Entry.{Entry}
 use Rattle.sccache_recorded_builds.specs.declared.tally.Tally.{Tally}
 
 -- the numbers of entries and of one after them
-numbers_behind : (test : Entry → Bool) (first : ℕ) (entries : List Entry) (entry : Entry)
+numbers_after : (test : Entry → Bool) (first : ℕ) (entries : List Entry) (entry : Entry)
     → numbers_where test first (entries ++ entry ∷ [])
     ≡ numbers_where test first entries
     ++ (if test entry then (first + length entries) ∷ [] else [])
-numbers_behind test first [] entry =
+numbers_after test first [] entry =
     let same : first ≡ first + 0 = omega arith in
     append-nil (if test entry then first ∷ [] else [])
     ∙ ap (λ (number : ℕ). if test entry then number ∷ [] else []) same
-numbers_behind test first (one ∷ entries) entry =
+numbers_after test first (one ∷ entries) entry =
     let here = if test one then first ∷ [] else [] in
     let more = numbers_where test (first + 1) entries in
     let same : (first + 1) + length entries ≡ first + length (one ∷ entries) = omega arith in
     ap (λ (numbers : List ℕ). here ++ numbers)
-    (numbers_behind test (first + 1) entries entry
+    (numbers_after test (first + 1) entries entry
     ∙ ap (λ (number : ℕ). more ++ (if test entry then number ∷ [] else [])) same)
     ∙ sym
     (append_assoc here more
     (if test entry then (first + length (one ∷ entries)) ∷ [] else []))
 
 -- what was noted of entries and of one after them
-pub noted_behind : (noted next : List ℕ) (test : Entry → Bool) (number : ℕ) (entries : List Entry)
+pub noted_after : (noted next : List ℕ) (test : Entry → Bool) (number : ℕ) (entries : List Entry)
     (entry : Entry)
     → next ≡ noted ++ (if test entry then number ∷ [] else []) → number ≡ 1 + length entries
     → noted ≡ numbers_where test 1 entries
     → next ≡ numbers_where test 1 (entries ++ entry ∷ [])
-noted_behind noted next test number entries entry one is before =
+noted_after noted next test number entries entry one is before =
     one
     ∙ ap (λ (numbers : List ℕ). numbers ++ (if test entry then number ∷ [] else [])) before
     ∙ ap
     (λ (other : ℕ). numbers_where test 1 entries ++ (if test entry then other ∷ [] else []))
     is
-    ∙ sym (numbers_behind test 1 entries entry)
+    ∙ sym (numbers_after test 1 entries entry)
 
 kept_first : (b : Bool) (outcome : Outcome) (later : List Outcome)
     → length (cond b (outcome ∷ later) later) ≡ length later + (if b then 1 else 0)
@@ -64,12 +64,12 @@ kept_of_one_more of (one ∷ entries) entry =
       kept_of_one_more of entries entry,
     )
 
-pub kept_behind :
+pub kept_after :
     (kept next : ℕ) (of : Entry → Outcome) (entries : List Entry) (entry : Entry)
     → next ≡ kept + (if is_kept (of entry) then 1 else 0)
     → kept ≡ length (filter is_kept (map of entries))
     → next ≡ length (filter is_kept (map of (entries ++ entry ∷ [])))
-kept_behind kept next of entries entry one before =
+kept_after kept next of entries entry one before =
     omega (arith, one, before, kept_of_one_more of entries entry)
 
 -- then a tally's rows are those of the entries

@@ -51,9 +51,9 @@ fn write_request(
     parsed: &ParsedArguments,
     detail: Detail,
 ) -> Result<(), AllocError> {
-    let behind = if parsed.double_dash_input { " --" } else { "" };
+    let after = if parsed.double_dash_input { " --" } else { "" };
     let input = &parsed.input;
-    write!(text, "input{behind} {input}")?;
+    write!(text, "input{after} {input}")?;
     if detail == Detail::Lists {
         let language = parsed.language.as_str();
         write!(text, "; language {language}")?;

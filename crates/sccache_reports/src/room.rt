@@ -69,11 +69,11 @@ impl EntryRoom {
             self.has_executable = true;
             return refill(self.alloc, &mut self.entry.executable, word);
         }
-        self.add_behind(word)
+        self.add_after(word)
     }
 
     /// Adds a word after the executable.
-    fn add_behind(&mut self, word: &[u8]) -> Result<(), AllocError> {
+    fn add_after(&mut self, word: &[u8]) -> Result<(), AllocError> {
         match self.words.get_mut(self.count) {
             Some(place) => refill(self.alloc, place, word)?,
             None => self.words.push(OsBytes::from_slice(self.alloc, word)?)?,

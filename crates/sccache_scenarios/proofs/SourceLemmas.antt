@@ -7,7 +7,7 @@ use Rattle.std.proofs.lemmas.List.{append-nil}
 use Rattle.std.proofs.lemmas.List.Concat.{flat_map-append}
 use Rattle.base_files.specs.Bytes.{Bytes}
 use Rattle.cmdlines_base.specs.Printing.{normal, normal_disposition}
-use Rattle.cmdlines_base.specs.Reading.{Item, raw, unknown, flag, valued, behind_dashes}
+use Rattle.cmdlines_base.specs.Reading.{Item, raw, unknown, flag, valued, after_dashes}
 use Rattle.cmdlines_base.specs.declared.argument.ArgDisposition.{ArgDisposition}
 use Rattle.cmdlines_tables.specs.Kinds.{is_same_list, list_of}
 use Rattle.cmdlines_tables.specs.CompilerFacts.{ColorWord, by_flag, by_value, facts_about, spelling_of}
@@ -23,7 +23,7 @@ use Rattle.cmdlines_tables.specs.declared.kind.OptionList.{OptionList}
 use Rattle.cmdlines_tables.specs.declared.kind.OptionList.TheVariants as lists
 use Rattle.cmdlines_tables.specs.declared.language.Language.{Language}
 use Rattle.cmdlines_tables.specs.declared.language.Language.TheVariants.{C, Cxx, CPreprocessed, CxxPreprocessed, Assembler, AssemblerToPreprocess, Rust}
-use Rattle.cmdlines.specs.Commands.{ReadsAs, added_items, behind_items, color_items, compile_items, front_items, front_words, preprocess_items, when_items}
+use Rattle.cmdlines.specs.Commands.{ReadsAs, added_items, after_items, color_items, compile_items, front_items, front_words, preprocess_items, when_items}
 use Rattle.cmdlines.specs.KnownLanguages.{IsKnownTo}
 use Rattle.cmdlines.specs.Wanted.{is_wanted, wanted}
 use Rattle.cmdlines_tables.specs.declared.parsed.DependencyOptions.{DependencyOptions}
@@ -76,13 +76,13 @@ input_steady (raw w) = refl
 input_steady (unknown w) = refl
 input_steady (flag f k) = refl
 input_steady (valued f k v d) = refl
-input_steady (behind_dashes w) = refl
+input_steady (after_dashes w) = refl
 
 language_steady : IsSteady language_in
 language_steady (raw w) = refl
 language_steady (unknown w) = refl
 language_steady (flag f k) = refl
-language_steady (behind_dashes w) = refl
+language_steady (after_dashes w) = refl
 language_steady (valued f k v d) = by (names_none k)
   where
     by : (k ≡ kinds.Language) ⊎ ((f v : Bytes) (d : ArgDisposition) → language_in (valued f k v d) ≡ []) → language_in (valued f k v (normal_disposition f d)) ≡ language_in (valued f k v d)
@@ -98,13 +98,13 @@ input_unwanted list some (raw w) h = absurd (clash (is_same_list lists.Nowhere l
 input_unwanted list some (unknown w) h = refl
 input_unwanted list some (flag f k) h = refl
 input_unwanted list some (valued f k v d) h = refl
-input_unwanted list some (behind_dashes w) h = absurd (clash (is_same_list lists.Nowhere list) some h)
+input_unwanted list some (after_dashes w) h = absurd (clash (is_same_list lists.Nowhere list) some h)
 
 language_unwanted : IsUnwanted language_in
 language_unwanted list some (raw w) h = refl
 language_unwanted list some (unknown w) h = refl
 language_unwanted list some (flag f k) h = refl
-language_unwanted list some (behind_dashes w) h = refl
+language_unwanted list some (after_dashes w) h = refl
 language_unwanted list some (valued f k v d) h = by (names_none k)
   where
     by : (k ≡ kinds.Language) ⊎ ((f v : Bytes) (d : ArgDisposition) → language_in (valued f k v d) ≡ []) → language_in (valued f k v d) ≡ []
@@ -126,8 +126,8 @@ module _ (f : Item ArgKind → List Bytes) where
       ap (λ s. if s then None else only (flat_map f (reading_of kind command).items)) r.whole
       ∙ ap only (sym (steady_all steady (reading_of kind command).items) ∙ ap (flat_map f) r.items ∙ steady_all steady expected)
 
-  none_behind : (xs ys : List (Item ArgKind)) (found : List Bytes) → Gives xs found → Gives ys [] → Gives (xs ++ ys) found
-  none_behind xs ys found h none = record { is = flat_map-append f xs ys ∙ ap (λ x. x ++ flat_map f ys) h.is ∙ ap (λ y. found ++ y) none.is ∙ append-nil found }
+  none_after : (xs ys : List (Item ArgKind)) (found : List Bytes) → Gives xs found → Gives ys [] → Gives (xs ++ ys) found
+  none_after xs ys found h none = record { is = flat_map-append f xs ys ∙ ap (λ x. x ++ flat_map f ys) h.is ∙ ap (λ y. found ++ y) none.is ∙ append-nil found }
 
   none_before : (xs ys : List (Item ArgKind)) (found : List Bytes) → Gives xs [] → Gives ys found → Gives (xs ++ ys) found
   none_before xs ys found none h = record { is = flat_map-append f xs ys ∙ ap (λ x. x ++ flat_map f ys) none.is ∙ h.is }
@@ -201,25 +201,25 @@ when_none true name k value = record { is = refl }
 
 added_none : (kind : CCompilerKind) (o : DependencyOptions) (path : Option Bytes) → Gives input_in (added_items kind o path) []
 added_none kind o None = record { is = refl }
-added_none kind o (Some path) = none_behind input_in _ _ [] (when_none _ _ _ _) (when_none _ _ _ _)
+added_none kind o (Some path) = none_after input_in _ _ [] (when_none _ _ _ _) (when_none _ _ _ _)
 
 -- the input comes first or last
-front_found : (behind : Bool) (input : Bytes) → Gives input_in (front_items behind input) (front_words behind input)
+front_found : (after : Bool) (input : Bytes) → Gives input_in (front_items after input) (front_words after input)
 front_found true input = record { is = refl }
 front_found false input = record { is = refl }
 
-front_none : (behind : Bool) (input : Bytes) → Gives language_in (front_items behind input) []
+front_none : (after : Bool) (input : Bytes) → Gives language_in (front_items after input) []
 front_none true input = record { is = refl }
 front_none false input = record { is = refl }
 
-behind_none : (behind : Bool) (input : Bytes) → Gives language_in (behind_items behind input) []
-behind_none true input = record { is = refl }
-behind_none false input = record { is = refl }
+after_none : (after : Bool) (input : Bytes) → Gives language_in (after_items after input) []
+after_none true input = record { is = refl }
+after_none false input = record { is = refl }
 
-input_found : (items : List (Item ArgKind)) (behind : Bool) (input : Bytes) → Gives input_in items (front_words behind input) → Gives input_in (items ++ behind_items behind input) (input ∷ [])
-input_found items behind input h = record { is = flat_map-append input_in items (behind_items behind input) ∙ ap (λ x. x ++ flat_map input_in (behind_items behind input)) h.is ∙ both behind }
+input_found : (items : List (Item ArgKind)) (after : Bool) (input : Bytes) → Gives input_in items (front_words after input) → Gives input_in (items ++ after_items after input) (input ∷ [])
+input_found items after input h = record { is = flat_map-append input_in items (after_items after input) ∙ ap (λ x. x ++ flat_map input_in (after_items after input)) h.is ∙ both after }
   where
-    both : (b : Bool) → front_words b input ++ flat_map input_in (behind_items b input) ≡ input ∷ []
+    both : (b : Bool) → front_words b input ++ flat_map input_in (after_items b input) ≡ input ∷ []
     both true = refl
     both false = refl
 
@@ -233,7 +233,7 @@ module _ (kind : CCompilerKind) (p : ParsedArguments) (items : List (Item ArgKin
   compile_gives : (path : Bytes) → Gives input_in (compile_items kind p path items) (p.input ∷ [])
   compile_gives path =
       input_found _ p.double_dash_input p.input
-      (none_behind input_in _ _ _ (none_behind input_in _ _ _ (none_behind input_in _ _ _ (none_behind input_in _ _ _ (none_behind input_in _ _ _ (none_behind input_in _ _ _ (none_before input_in _ _ _ (none_behind input_in _ _ _ (own_language_none kind p.language)
+      (none_after input_in _ _ _ (none_after input_in _ _ _ (none_after input_in _ _ _ (none_after input_in _ _ _ (none_after input_in _ _ _ (none_after input_in _ _ _ (none_before input_in _ _ _ (none_after input_in _ _ _ (own_language_none kind p.language)
       (record { is = refl }))
       (front_found p.double_dash_input p.input))
       (input_output_none kind path))
@@ -246,7 +246,7 @@ module _ (kind : CCompilerKind) (p : ParsedArguments) (items : List (Item ArgKin
   preprocess_gives : Gives input_in (preprocess_items kind p items) (p.input ∷ [])
   preprocess_gives =
       input_found _ p.double_dash_input p.input
-      (none_behind input_in _ _ _ (none_behind input_in _ _ _ (none_behind input_in _ _ _ (none_behind input_in _ _ _ (none_behind input_in _ _ _ (none_before input_in _ _ _ (none_behind input_in _ _ _ (own_language_none kind p.language)
+      (none_after input_in _ _ _ (none_after input_in _ _ _ (none_after input_in _ _ _ (none_after input_in _ _ _ (none_after input_in _ _ _ (none_before input_in _ _ _ (none_after input_in _ _ _ (own_language_none kind p.language)
       (record { is = refl }))
       (front_found p.double_dash_input p.input))
       (none_of lists.Preprocessor refl))
@@ -257,7 +257,7 @@ module _ (kind : CCompilerKind) (p : ParsedArguments) (items : List (Item ArgKin
 
   compile_names : (path : Bytes) → Gives language_in (compile_items kind p path items) (flat_map language_in (language_items kind p.language))
   compile_names path =
-      none_behind language_in _ _ _ (none_behind language_in _ _ _ (none_behind language_in _ _ _ (none_behind language_in _ _ _ (none_behind language_in _ _ _ (none_behind language_in _ _ _ (none_behind language_in _ _ _ (none_behind language_in _ _ _ (none_behind language_in (language_items kind p.language) (flag (codes "-c") kinds.DoCompilation ∷ []) _ (record { is = refl })
+      none_after language_in _ _ _ (none_after language_in _ _ _ (none_after language_in _ _ _ (none_after language_in _ _ _ (none_after language_in _ _ _ (none_after language_in _ _ _ (none_after language_in _ _ _ (none_after language_in _ _ _ (none_after language_in (language_items kind p.language) (flag (codes "-c") kinds.DoCompilation ∷ []) _ (record { is = refl })
       (record { is = refl }))
       (front_none p.double_dash_input p.input))
       (language_output_none kind path))
@@ -266,7 +266,7 @@ module _ (kind : CCompilerKind) (p : ParsedArguments) (items : List (Item ArgKin
       (names_none_of lists.Unhashed refl))
       (names_none_of lists.Common refl))
       (names_none_of lists.Arch refl))
-      (behind_none p.double_dash_input p.input)
+      (after_none p.double_dash_input p.input)
 
   -- the one input of each command is the request's
   pub compile_input : (command : List Bytes) (path : Bytes) → ReadsAs kind command (compile_items kind p path items) → one_in input_in (reading_of kind command) ≡ Some p.input

@@ -27,7 +27,7 @@ fn wanted(alloc: Global, outputs: &[Output]) -> Result<Wanted, AllocError> {
 }
 
 /// Puts a remark at the end of a line. A line end that it holds is shown as U+FFFD, so that the line stays one.
-fn push_behind(line: &mut String, remark: &str) -> Result<(), AllocError> {
+fn push_after(line: &mut String, remark: &str) -> Result<(), AllocError> {
     line.push_str(" #")?;
     let mut mark = ' ';
     for piece in remark.split('\n') {
@@ -48,9 +48,9 @@ fn push_reason(
     match earlier {
         Some(earlier) => {
             let difference = format!(in alloc; "{}", Difference { one, earlier })?;
-            push_behind(line, difference.as_str())
+            push_after(line, difference.as_str())
         }
-        None => push_behind(line, "first with these outputs"),
+        None => push_after(line, "first with these outputs"),
     }
 }
 

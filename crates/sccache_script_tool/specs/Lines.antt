@@ -3,7 +3,7 @@ use Rattle.std.specs.Prelude.{nat_eq, ◌==◌, ◌-◌, if◌then◌else◌, Li
 use Rattle.std.specs.List.{onto_first, ends_with}
 use Rattle.std.specs.Str.{byte}
 use Rattle.base_files.specs.Bytes.{Bytes}
-use Rattle.cmdlines_base.specs.Table.{behind}
+use Rattle.cmdlines_base.specs.Table.{after}
 
 -- the lines of a text, each with its line end, which only the last may lack
 abbrev pub lines : Bytes → List Bytes
@@ -24,4 +24,4 @@ with_end text = if ends_with nat_eq text (codes "\n") then text else text ++ cod
 
 -- the NAME of a line `#include "NAME"`: whatever is between its first quote and the quote that ends it
 abbrev pub included : Bytes → Option Bytes
-included line = option_and_then (ahead_of (codes "\"")) (behind (codes "#include \"") (without_end line))
+included line = option_and_then (ahead_of (codes "\"")) (after (codes "#include \"") (without_end line))

@@ -5,7 +5,7 @@ use Rattle.std.specs.Option.{option_map, option_map_or}
 use Rattle.base_files.specs.Bytes.{Bytes}
 use Rattle.base_files.specs.Path.{join}
 use Rattle.base_files.specs.Tree.{Tree, contents_at}
-use Rattle.cmdlines_base.specs.Reading.{Item, raw, valued, behind_dashes, Reading}
+use Rattle.cmdlines_base.specs.Reading.{Item, raw, valued, after_dashes, Reading}
 use Rattle.cmdlines_tables.specs.Languages.{language_named}
 use Rattle.cmdlines_tables.specs.declared.kind.ArgKind.{ArgKind}
 use Rattle.cmdlines_tables.specs.declared.kind.ArgKind.TheVariants.{Language}
@@ -31,7 +31,7 @@ only (word ∷ other ∷ others) = None
 -- a loose item, also after double dashes
 abbrev pub input_in : Item ArgKind → List Bytes
 input_in (raw w) = w ∷ []
-input_in (behind_dashes w) = w ∷ []
+input_in (after_dashes w) = w ∷ []
 input_in _ = []
 
 -- the language that an item names

@@ -4,7 +4,7 @@ ghost use Rattle.std.specs.Prelude.{◌≡◌, ◌<◌, ◌++◌, ◌∷◌, [],
 ghost use Rattle.std.specs.Option.{option_copied};
 ghost use Rattle.sccache_script_tool.specs.Lines.{lines, ahead_of, with_end, included};
 
-use cmdlines_base::behind;
+use cmdlines_base::after;
 use memchr::memchr;
 use std::alloc::AllocError;
 
@@ -36,7 +36,7 @@ pub fn included(line: &[u8]) -> Option<&[u8]>
     ensures { option_copied result ≡ included line.now }
 {
     let line = ahead_of(b"\n", line).unwrap_or(line);
-    ahead_of(b"\"", behind(b"#include \"", line)?)
+    ahead_of(b"\"", after(b"#include \"", line)?)
 }
 
 /// Adds contents, and a line end where they lack one.

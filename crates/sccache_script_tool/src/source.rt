@@ -41,8 +41,8 @@ fn push_language(
     languages: &mut Vec<OsBytes>,
 ) -> Result<(), AllocError>
     ensures { OnOk result
-        ((behind : Bool)
-        → languages.new.items ≡ languages.old.items ++ language_in (placed behind argument.now)) }
+        ((after : Bool)
+        → languages.new.items ≡ languages.old.items ++ language_in (placed after argument.now)) }
 {
     if let Argument::WithValue(_, data, _) = argument {
         if data.kind() == ArgKind::Language {
@@ -55,7 +55,7 @@ fn push_language(
 /// Adds the input that an argument names.
 fn push_input(argument: Argument<ArgData>, inputs: &mut Vec<OsBytes>) -> Result<(), AllocError>
     ensures { OnOk result
-        ((behind : Bool) → inputs.new.items ≡ inputs.old.items ++ input_in (placed behind argument)) }
+        ((after : Bool) → inputs.new.items ≡ inputs.old.items ++ input_in (placed after argument)) }
 {
     if let Argument::Raw(word) = argument {
         inputs.push(word)?;

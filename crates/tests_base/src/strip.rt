@@ -39,7 +39,7 @@ fn lose_a_folder(alloc: Global, project: &[OsBytes]) -> Result<(), Fail> {
     let defined = b"-DROOT=/home/user/project".as_slice();
     checks.holds(stays(alloc, project, defined), "defined");
     checks.holds(stays(alloc, project, b"--/home/user/project"), "dashes");
-    checks.holds(stays(alloc, project, b"x/home/user/project"), "behind x");
+    checks.holds(stays(alloc, project, b"x/home/user/project"), "after x");
     checks.end()
 }
 

@@ -40,10 +40,10 @@ fn split(alloc: Global, word: &[u8], separator: &str) -> ArgParseResult<(String,
 }
 
 /// Whether that comes before the first separator of a word, and that after it.
-fn is_cut(alloc: Global, word: &[u8], separator: &str, before: &str, behind: &str) -> bool {
+fn is_cut(alloc: Global, word: &[u8], separator: &str, before: &str, after: &str) -> bool {
     match split(alloc, word, separator) {
         Ok((front, rest)) => match rest {
-            Some(rest) => front.as_str() == before && rest.as_str() == behind,
+            Some(rest) => front.as_str() == before && rest.as_str() == after,
             None => false,
         },
         Err(_) => false,

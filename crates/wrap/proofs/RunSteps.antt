@@ -84,15 +84,15 @@ cons_cases y xs x c = at c.0 c.1 c.2
     at zero p e = inl e
     at (suc k) p e = inr (k, omega arith, e)
 
-behind : {X : Type 0} (y : X) (xs : List X) (x : X) → Contains xs x → Contains (y ∷ xs) x
-behind y xs x c = (suc c.0, omega (arith, c.1), c.2)
+contained_after : {X : Type 0} (y : X) (xs : List X) (x : X) → Contains xs x → Contains (y ∷ xs) x
+contained_after y xs x c = (suc c.0, omega (arith, c.1), c.2)
 
 append_cases : {X : Type 0} (xs ys : List X) (x : X) → Contains (xs ++ ys) x → Contains xs x ⊎ Contains ys x
 append_cases [] ys x c = inr c
 append_cases (y ∷ xs) ys x c = elim (cons_cases y (xs ++ ys) x c) [
   | inl same ↦ inl (0, omega arith, same)
   | inr later ↦ elim (append_cases xs ys x later) [
-    | inl mine ↦ inl (behind y xs x mine)
+    | inl mine ↦ inl (contained_after y xs x mine)
     | inr other ↦ inr other
   ]
 ]
@@ -144,10 +144,10 @@ asked_in (Some q) p h = by (has_entry_key q.call) h
 
 direct_in : (run : List Account) (p : PrintedCall) → Contains (direct_calls run) p → (w : Work) × Contains run (worked w) × (w.direct ≡ Some p)
 direct_in [] p h = absurd (omega (arith, h.1))
-direct_in (passed why ∷ run) p h = let it = direct_in run p h in (it.0, behind (passed why) run (worked it.0) it.1, it.2)
+direct_in (passed why ∷ run) p h = let it = direct_in run p h in (it.0, contained_after (passed why) run (worked it.0) it.1, it.2)
 direct_in (worked w ∷ run) p h = elim (append_cases (asked_by w.direct) (direct_calls run) p h) [
   | inl mine ↦ (w, (0, omega (arith), refl), asked_in w.direct p mine)
-  | inr later ↦ let it = direct_in run p later in (it.0, behind (worked w) run (worked it.0) it.1, it.2)
+  | inr later ↦ let it = direct_in run p later in (it.0, contained_after (worked w) run (worked it.0) it.1, it.2)
 ]
 
 pub entry_premises : (digest_of : Bytes → Bytes) (run : List Account) → Premises digest_of run → EntryPremises digest_of (direct_calls run)

@@ -4,7 +4,7 @@ ghost use Rattle.std.specs.Prelude.{◌≡◌, IfOk, IfErr};
 ghost use Rattle.std.specs.Vec.Iter.{into_iter_items};
 ghost use Rattle.ckeys_records.specs.Meaning.{names_of};
 ghost use Rattle.cmdlines_base.specs.Artifacts.{Artifacts};
-ghost use Rattle.wrap_keys.specs.Account.{collected, all, first_file, files_behind, path_of, placed};
+ghost use Rattle.wrap_keys.specs.Account.{collected, all, first_file, files_after, path_of, placed};
 ghost use Rattle.wrap.specs.PathMap.{HasPaths};
 ghost use Rattle.wrap.specs.Steps.{CollectCause};
 
@@ -20,7 +20,7 @@ use wrap_base::store_key::Pairs;
 /// Takes the next file, where there is one and it was made.
 fn next_file(rest: &mut IntoIter<Option<OsBytes>>) -> Option<OsBytes>
     ensures file { result ≡ first_file (into_iter_items rest.old) }
-    ensures behind { into_iter_items rest.new ≡ files_behind (into_iter_items rest.old) }
+    ensures after { into_iter_items rest.new ≡ files_after (into_iter_items rest.old) }
 {
     rest.next().flatten()
 }

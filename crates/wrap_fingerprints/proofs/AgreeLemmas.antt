@@ -32,7 +32,7 @@ found_first P (part ∷ parts) (Some it) (inl h) =
     let others = found_first P parts (Some it) h.1 in
     record {
       before = part ∷ others.before;
-      behind = others.behind;
+      after = others.after;
       listed = ap (λ (l : List Part). part ∷ l) others.listed;
       fails = others.fails;
       holds = (h.0, others.holds);
@@ -41,7 +41,7 @@ found_first P (part ∷ parts) (Some it) (inr h) =
     let same : part ≡ it = ap (λ (o : Option Part). unwrap_or o part) (sym h.1) in
     record {
       before = [];
-      behind = parts;
+      after = parts;
       listed = ap (λ (p : Part). p ∷ parts) same;
       fails = subst (λ (p : Part). P p → ⊥) same h.0;
       holds = tt;

@@ -71,8 +71,8 @@ parts_in (Rustc parts names) = Family ∷ Toolchain ∷ Version ∷ KeptWords �
 -- The part is among these, something doesn't hold of it, and it holds of each part before it.
 pub record ComesFirst (P : Part → Type 0) (parts : List Part) (part : Part) : Type 0 where
   pub before : List Part
-  pub behind : List Part
-  pub listed : parts ≡ before ++ part ∷ behind
+  pub after : List Part
+  pub listed : parts ≡ before ++ part ∷ after
   pub fails : P part → ⊥
   pub holds : AllByRecursion P before
 

@@ -3,7 +3,7 @@ use Rattle.std.proofs.Common.{◌≡◌, ◌≤◌, ℕ, zero, suc, Bool, true, 
 use Rattle.std.specs.List.{find, zip}
 use Rattle.base_files.specs.Bytes.{Bytes}
 use Rattle.ckeys_records.specs.declared.output_name.OutputName.{OutputName}
-use Rattle.wrap_keys.specs.Account.{Collected, all, behind, collected, gathered, missing}
+use Rattle.wrap_keys.specs.Account.{Collected, all, after, collected, gathered, missing}
 use Rattle.wrap_keys.specs.Gathering.{Outcome, gives, is_missed, outcomes_of, unless_missed}
 
 -- output by output, each with its file beside it
@@ -19,7 +19,7 @@ beside_files (o ∷ names) (f ∷ files) n h = ap (gathered o f) (beside_files n
 
 -- an output that was made, before the others
 made_by : (o : OutputName) (contents : Bytes) (missed : Option Outcome) (outcomes : List Outcome)
-    → behind (o.name, contents) (unless_missed missed outcomes) ≡ unless_missed missed ((o, Some contents) ∷ outcomes)
+    → after (o.name, contents) (unless_missed missed outcomes) ≡ unless_missed missed ((o, Some contents) ∷ outcomes)
 made_by o contents None outcomes = refl
 made_by o contents (Some m) outcomes = refl
 

@@ -134,9 +134,9 @@ abbrev pub first_file : List (Option Bytes) → Option Bytes
 first_file [] = None
 first_file (f ∷ fs) = f
 
-abbrev pub files_behind : List (Option Bytes) → List (Option Bytes)
-files_behind [] = []
-files_behind (f ∷ fs) = fs
+abbrev pub files_after : List (Option Bytes) → List (Option Bytes)
+files_after [] = []
+files_after (f ∷ fs) = fs
 
 -- what is kept of outputs: their names and contents
 abbrev pub Pairs : Type 0
@@ -147,17 +147,17 @@ pub data Collected : Type 0 where
   missing : Bytes → Collected
   all : Pairs → Collected
 
-abbrev pub behind : Bytes × Bytes → Collected → Collected
-behind pair (missing name) = missing name
-behind pair (all pairs) = all (pair ∷ pairs)
+abbrev pub after : Bytes × Bytes → Collected → Collected
+after pair (missing name) = missing name
+after pair (all pairs) = all (pair ∷ pairs)
 
 abbrev pub gathered : OutputName → Option Bytes → Collected → Collected
-gathered o (Some contents) rest = behind (o.name, contents) rest
+gathered o (Some contents) rest = after (o.name, contents) rest
 gathered o None rest = if o.optional then rest else missing o.name
 
 abbrev pub collected : List OutputName → List (Option Bytes) → Collected
 collected [] files = all []
-collected (o ∷ names) files = gathered o (first_file files) (collected names (files_behind files))
+collected (o ∷ names) files = gathered o (first_file files) (collected names (files_after files))
 
 -- the compiler succeeded and made these outputs: its status is 0, and each demanded one was made
 pub record IsSuccess (w : Work) (pairs : Pairs) : Type 0 where

@@ -118,20 +118,20 @@ module _ (text : Option RecordedText) (outputs : Option RecordedOutputs) (rustc 
       let status = or_first (preprocess_fault_of all.dep_info) (utf8_fault_of DepInfo (text_in all.dep_info.contents)) answer in
       told_same (on_dependencies rustc) (dep_info_words q.asks) q.scene.dir (λ a. world DepInfo a [] q.scene) gives.dep_info (status_is all.dep_info status)
 
-  behind : key_fault_of told c ≡ None → or_else (answer_fault_of FileNames (file_names_of told q)) (files_fault_of q (digested told q.scene q.asks.staticlibs)) ≡ None
-  behind fine = or_second (dep_info_fault_of q (dep_info_of told q)) (or_else (answer_fault_of FileNames (file_names_of told q)) (files_fault_of q (digested told q.scene q.asks.staticlibs))) fine
+  after : key_fault_of told c ≡ None → or_else (answer_fault_of FileNames (file_names_of told q)) (files_fault_of q (digested told q.scene q.asks.staticlibs)) ≡ None
+  after fine = or_second (dep_info_fault_of q (dep_info_of told q)) (or_else (answer_fault_of FileNames (file_names_of told q)) (files_fault_of q (digested told q.scene q.asks.staticlibs))) fine
 
   file_names_same : key_fault_of told c ≡ None → file_names_of told q ≡ file_names_of world q
   file_names_same fine =
       let made = file_names_of told q in
-      let answer = or_first (answer_fault_of FileNames made) (files_fault_of q (digested told q.scene q.asks.staticlibs)) (behind fine) in
+      let answer = or_first (answer_fault_of FileNames made) (files_fault_of q (digested told q.scene q.asks.staticlibs)) (after fine) in
       let status = or_first (preprocess_fault_of made) (utf8_fault_of FileNames (text_in made.contents)) answer in
       told_same (on_names rustc) (file_names_words q.asks) q.scene.dir (λ a. world FileNames a [] q.scene) gives.file_names (status_is made status)
 
   libraries_same : key_fault_of told c ≡ None → digested told q.scene q.asks.staticlibs ≡ digested world q.scene q.asks.staticlibs
   libraries_same fine =
       let libraries = digested told q.scene q.asks.staticlibs in
-      let files = or_second (answer_fault_of FileNames (file_names_of told q)) (files_fault_of q libraries) (behind fine) in
+      let files = or_second (answer_fault_of FileNames (file_names_of told q)) (files_fault_of q libraries) (after fine) in
       let later = or_second (read_fault_of q.scene.files (extern_paths q)) (or_else (digest_fault_of libraries) (optional_files_fault_of q)) files in
       digests_same q.asks.staticlibs (or_first (digest_fault_of libraries) (optional_files_fault_of q) later)
 

@@ -58,8 +58,8 @@ tells_again told r command dir p is w d same =
 -- and for outputs of the recorded names
 crate_again : (crate : Option RecordedCrate) (r : RecordedCrate) (command : List Bytes) (dir : Bytes) (asked : Artifacts) (m : Compiled) → crate ≡ Some r → r.words ≡ command → r.dir ≡ dir → same_outputs asked r.names ≡ true → m ≡ r.made → made_as m ≡ crate_for crate (words command) (names_of asked) dir
 crate_again crate r command dir asked m is w d names same =
-    let behind = and_from (same_list same_name (names_of asked) r.names) (bytes_eq dir r.dir) names (same_folder dir r.dir d) in
-    let all = and_from (same_asked (words command) (words r.words)) (same_list same_name (names_of asked) r.names && bytes_eq dir r.dir) (same_command command r.words w) behind in
+    let after = and_from (same_list same_name (names_of asked) r.names) (bytes_eq dir r.dir) names (same_folder dir r.dir d) in
+    let all = and_from (same_asked (words command) (words r.words)) (same_list same_name (names_of asked) r.names && bytes_eq dir r.dir) (same_command command r.words w) after in
     ap made_as same ∙ taken (same_asked (words command) (words r.words) && (same_list same_name (names_of asked) r.names && bytes_eq dir r.dir)) (made_as r.made) all ∙ ap (λ c. crate_for c (words command) (names_of asked) dir) (sym is)
 
 pub crates_again : (outputs : Option RecordedOutputs) (crate : Option RecordedCrate) (r : RecordedCrate) (kind : Option CCompilerKind) (command : List Bytes) (dir : Bytes) (asked : Artifacts) (m : Compiled) → crate ≡ Some r → kind ≡ None → r.words ≡ command → r.dir ≡ dir → same_outputs asked r.names ≡ true → m ≡ r.made → made_as m ≡ compiled_for outputs crate (asked_by kind command) (names_of asked) dir

@@ -6,7 +6,7 @@ use Rattle.std.specs.Str.{bytes_eq}
 use Rattle.std.proofs.lemmas.Bool.{and_parts, and_from, eqb-true, eq-eqb}
 use Rattle.std.proofs.lemmas.Slice.Eq.{bytes_eq-Decides}
 use Rattle.base_files.specs.Bytes.{Bytes}
-use Rattle.cmdlines_base.specs.Reading.{Item, raw, unknown, flag, valued, behind_dashes}
+use Rattle.cmdlines_base.specs.Reading.{Item, raw, unknown, flag, valued, after_dashes}
 use Rattle.cmdlines_base.specs.declared.argument.ArgDisposition.{ArgDisposition}
 use Rattle.cmdlines_base.specs.declared.argument.ArgDisposition.TheVariants.{Separated, CanBeConcatenated, CanBeSeparated, Concatenated}
 use Rattle.cmdlines_tables.specs.contracts.kind.ArgKind.{the_type}
@@ -70,12 +70,12 @@ item_is (raw v) (raw w) h = ap raw (bytes_is v w h)
 item_is (raw v) (unknown w) h = cc
 item_is (raw v) (flag g l) h = cc
 item_is (raw v) (valued g l w e) h = cc
-item_is (raw v) (behind_dashes w) h = cc
+item_is (raw v) (after_dashes w) h = cc
 item_is (unknown v) (raw w) h = cc
 item_is (unknown v) (unknown w) h = ap unknown (bytes_is v w h)
 item_is (unknown v) (flag g l) h = cc
 item_is (unknown v) (valued g l w e) h = cc
-item_is (unknown v) (behind_dashes w) h = cc
+item_is (unknown v) (after_dashes w) h = cc
 item_is (flag f k) (raw w) h = cc
 item_is (flag f k) (unknown w) h = cc
 item_is (flag f k) (flag g l) h =
@@ -84,7 +84,7 @@ item_is (flag f k) (flag g l) h =
     let same_kind_is = kind_is k l p.1 in
     λ i. flag (same_flag_is i) (same_kind_is i)
 item_is (flag f k) (valued g l w e) h = cc
-item_is (flag f k) (behind_dashes w) h = cc
+item_is (flag f k) (after_dashes w) h = cc
 item_is (valued f k v d) (raw w) h = cc
 item_is (valued f k v d) (unknown w) h = cc
 item_is (valued f k v d) (flag g l) h = cc
@@ -97,19 +97,19 @@ item_is (valued f k v d) (valued g l w e) h =
     let values = bytes_is v w r.0 in
     let ways = way_is d e r.1 in
     λ i. valued (flags i) (kinds i) (values i) (ways i)
-item_is (valued f k v d) (behind_dashes w) h = cc
-item_is (behind_dashes v) (raw w) h = cc
-item_is (behind_dashes v) (unknown w) h = cc
-item_is (behind_dashes v) (flag g l) h = cc
-item_is (behind_dashes v) (valued g l w e) h = cc
-item_is (behind_dashes v) (behind_dashes w) h = ap behind_dashes (bytes_is v w h)
+item_is (valued f k v d) (after_dashes w) h = cc
+item_is (after_dashes v) (raw w) h = cc
+item_is (after_dashes v) (unknown w) h = cc
+item_is (after_dashes v) (flag g l) h = cc
+item_is (after_dashes v) (valued g l w e) h = cc
+item_is (after_dashes v) (after_dashes w) h = ap after_dashes (bytes_is v w h)
 
 item_own : (a : Item ArgKind) → same_item a a ≡ true
 item_own (raw v) = bytes_own v
 item_own (unknown v) = bytes_own v
 item_own (flag f k) = and_from (bytes_eq f f) (same_kind k k) (bytes_own f) (kind_own k)
 item_own (valued f k v d) = and_from (bytes_eq f f) (same_kind k k && (bytes_eq v v && same_way d d)) (bytes_own f) (and_from (same_kind k k) (bytes_eq v v && same_way d d) (kind_own k) (and_from (bytes_eq v v) (same_way d d) (bytes_own v) (way_own d)))
-item_own (behind_dashes v) = bytes_own v
+item_own (after_dashes v) = bytes_own v
 
 list_is : {A : Type 0} (same : A → A → Bool) → ((x y : A) → same x y ≡ true → x ≡ y) → (xs ys : List A) → same_list same xs ys ≡ true → xs ≡ ys
 list_is same is [] [] h = refl

@@ -1,7 +1,7 @@
 -- When two tools are asked the same.
 use Rattle.std.specs.Prelude.{ℕ, Bool, true, false, ◌&&◌, ◌==◌, List, [], ◌∷◌, Option, None, Some}
 use Rattle.std.specs.Str.{bytes_eq}
-use Rattle.cmdlines_base.specs.Reading.{Item, raw, unknown, flag, valued, behind_dashes, Reading}
+use Rattle.cmdlines_base.specs.Reading.{Item, raw, unknown, flag, valued, after_dashes, Reading}
 use Rattle.cmdlines_base.specs.declared.argument.ArgDisposition.{ArgDisposition}
 use Rattle.cmdlines_base.specs.declared.argument.ArgDisposition.TheVariants.{Separated, CanBeConcatenated, CanBeSeparated, Concatenated}
 use Rattle.cmdlines_tables.specs.contracts.kind.ArgKind.{the_type}
@@ -32,7 +32,7 @@ same_item (raw v) (raw w) = bytes_eq v w
 same_item (unknown v) (unknown w) = bytes_eq v w
 same_item (flag f k) (flag g l) = bytes_eq f g && same_kind k l
 same_item (valued f k v d) (valued g l w e) = bytes_eq f g && (same_kind k l && (bytes_eq v w && same_way d e))
-same_item (behind_dashes v) (behind_dashes w) = bytes_eq v w
+same_item (after_dashes v) (after_dashes w) = bytes_eq v w
 same_item a b = false
 
 abbrev pub same_list : {A : Type 0} → (A → A → Bool) → List A → List A → Bool

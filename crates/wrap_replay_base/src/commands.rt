@@ -99,15 +99,15 @@ pub(crate) fn have_names(outputs: &[(OsBytes, ArtifactDescriptor)], names: &[Out
 {
     let mut outputs = outputs;
     let mut names = names;
-    while let Some((output, outputs_behind)) = outputs.split_first() {
-        let Some((name, names_behind)) = names.split_first() else {
+    while let Some((output, outputs_after)) = outputs.split_first() {
+        let Some((name, names_after)) = names.split_first() else {
             return false;
         };
         if output.0 != name.name || output.1.optional != name.optional {
             return false;
         }
-        outputs = outputs_behind;
-        names = names_behind;
+        outputs = outputs_after;
+        names = names_after;
     }
     names.is_empty()
 }

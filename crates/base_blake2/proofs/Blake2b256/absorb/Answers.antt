@@ -1,6 +1,6 @@
 use Rattle.std.proofs.Common.{◌≡◌, ℕ, ◌+◌, ◌-◌, ◌*◌, ◌/◌, length, arith, refl}
 use Rattle.std.proofs.lemmas.List.{take_rest}
-use Rattle.base_blake2.proofs.Absorbing.{held_behind, next_of, none_of}
+use Rattle.base_blake2.proofs.Absorbing.{held_after, next_of, none_of}
 use Rattle.base_blake2.proofs.Blake2b256.absorb.Goals as goal
 
 pub blocks-2-init : goal.blocks-2-init
@@ -20,4 +20,4 @@ returns c = λ m n a.
     let i : ℕ = (length c.args.bytes.now - 1) / 128 in
     let same : c.blocks-2.i ≡ i = omega arith in
     let before = rw same at (c.blocks-2.invariant.1 m n a) in
-    held_behind _ m c.args.bytes.now _ n i (omega (arith, a.bytes)) c.requires.more refl (take_rest c.args.bytes.now (128 * i)) (c.keep.ensures.held _ _ before)
+    held_after _ m c.args.bytes.now _ n i (omega (arith, a.bytes)) c.requires.more refl (take_rest c.args.bytes.now (128 * i)) (c.keep.ensures.held _ _ before)

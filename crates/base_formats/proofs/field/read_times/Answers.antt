@@ -11,7 +11,7 @@ returns-in_err-value g c =
 pub all-preserved : goal.all-preserved
 all-preserved g c =
     let n = c.in_ok-value.value in
-    rw c.in_ok-push.ensures.items (times-goes_on g.T.Field.reads c.all.all.items c.args.count c.all.counter c.all.rest.now (times_at g.T.Field.reads c.args.count c.args.bytes.now) n c.in_ok-value.behind.now c.all-test.true c.in_ok-value.ensures c.all.invariant)
+    rw c.in_ok-push.ensures.items (times-goes_on g.T.Field.reads c.all.all.items c.args.count c.all.counter c.all.rest.now (times_at g.T.Field.reads c.args.count c.args.bytes.now) n c.in_ok-value.after.now c.all-test.true c.in_ok-value.ensures c.all.invariant)
 
 pub returns : goal.returns
 returns g c = times-done g.T.Field.reads c.all.all.items c.args.count c.all.counter c.all.rest.now _ c.all-test.false c.all.invariant

@@ -11,9 +11,9 @@ returns-in_default-clause-refused c = λ _.
 
 pub loop-rest-preserved : goal.loop-rest-preserved
 loop-rest-preserved c =
-    let P : Bytes → Type 0 = λ plain. ReadsTo c.args.text.now plain c.in-Some.behind.now in
+    let P : Bytes → Type 0 = λ plain. ReadsTo c.args.text.now plain c.in-Some.after.now in
     subst P (sym c.in_ok-push.ensures.items)
-    (reads-step c.args.text.now c.loop-rest.plain.items c.loop-rest.rest.now c.in-Some.byte c.in-Some.behind.now c.loop-rest.invariant (sym c.in-Some.ensures.value))
+    (reads-step c.args.text.now c.loop-rest.plain.items c.loop-rest.rest.now c.in-Some.byte c.in-Some.after.now c.loop-rest.invariant (sym c.in-Some.ensures.value))
 
 pub returns-clause-only : goal.returns-clause-only
 returns-clause-only c =

@@ -26,7 +26,7 @@ returns-in-Some-too_hard_flag g c =
     let seen = is_seen (place_of c.next.new.self).dashes in
     let rest = reading_at entries (place_of c.next.new.self) in
     let argument = placed seen c.in-Ok.argument in
-    let item : argument ≡ step.item = c.arguments_are_their_items.ensures step.item c.in-Ok.argument seen step.is step.behind in
+    let item : argument ≡ step.item = c.arguments_are_their_items.ensures step.item c.in-Ok.argument seen step.is step.after in
     let before_is = step.reads ∙ ap (λ i. before i rest) (sym item) in
     let flag = c.in-Some-too_hard_flag.ensures seen in
     sym (ap refused flag.1 ∙ sym (decide-hard c.args.kind entries c.loop-next.facts c.loop-next.lists argument rest flag.0)
@@ -40,7 +40,7 @@ loop-next-preserved g c =
     let seen = is_seen (place_of c.next.new.self).dashes in
     let rest = reading_at entries (place_of c.next.new.self) in
     let argument = placed seen c.in-Ok.argument in
-    let item : argument ≡ step.item = c.arguments_are_their_items.ensures step.item c.in-Ok.argument seen step.is step.behind in
+    let item : argument ≡ step.item = c.arguments_are_their_items.ensures step.item c.in-Ok.argument seen step.is step.after in
     let before_is = step.reads ∙ ap (λ i. before i rest) (sym item) in
     record {
       same = steps.1 ∙ c.loop-next.invariant.same;

@@ -13,7 +13,7 @@ pub returns-in-None-clause-text : goal.returns-in-None-clause-text
 returns-in-None-clause-text c = grind (arith, is_utf8-from_IsUtf8, IsUtf8-from_is_utf8)
 
 pub returns-clause-split : goal.returns-clause-split
-returns-clause-split c = split-in-two c.args.separator.now c.args.word c.in-Ok.text.now (search rules) c.in_ok-before-in-Some.before c.in_ok-behind-in-Some.behind c.in-Some.before c.in-Some.behind (search rules) (search rules) c.in-Some.ensures.cases
+returns-clause-split c = split-in-two c.args.separator.now c.args.word c.in-Ok.text.now (search rules) c.in_ok-before-in-Some.before c.in_ok-after-in-Some.after c.in-Some.before c.in-Some.after (search rules) (search rules) c.in-Some.ensures.cases
 
 pub returns-clause-text : goal.returns-clause-text
 returns-clause-text c = grind (arith, is_utf8-from_IsUtf8, IsUtf8-from_is_utf8)

@@ -4,19 +4,19 @@ use Rattle.std.proofs.lemmas.List.Elements.{All-head}
 use Rattle.cmdlines_base.specs.Nodes.{Begins, GoesOn, IsNode}
 use Rattle.cmdlines_base.specs.Table.{entry_of, entries_of}
 use Rattle.cmdlines_base.specs.Reach.{reach}
-use Rattle.cmdlines_base.proofs.NodeLemmas.{all_on, ended_within, ends_once, node_behind}
+use Rattle.cmdlines_base.proofs.NodeLemmas.{all_on, ended_within, ends_once, node_after}
 use Rattle.cmdlines_base.proofs.ReachLemmas.{reach-ended}
 use Rattle.cmdlines_base.proofs.table.past_ended.Goals.{in_default-via-in-Some+else-flag-depth, in_default-via-in_default}
 use Rattle.cmdlines_base.proofs.table.past_ended.Goals as goal
 
-pub returns-after-fits_behind-clause-node : goal.returns-after-fits_behind-clause-node
-returns-after-fits_behind-clause-node g c =
+pub returns-after-fits_after-clause-node : goal.returns-after-fits_after-clause-node
+returns-after-fits_after-clause-node g c =
     let d = c.args.depth in
     let word = c.args.word.now in
-    node_behind d word (entry_of c.in-Some.entry.now) (entries_of c.in-Some.others.now) (subst (λ xs. IsNode d word (entries_of xs)) c.in-Some.ensures.cases.0 c.requires.node)
+    node_after d word (entry_of c.in-Some.entry.now) (entries_of c.in-Some.others.now) (subst (λ xs. IsNode d word (entries_of xs)) c.in-Some.ensures.cases.0 c.requires.node)
 
-pub returns-after-fits_behind-clause-on : goal.returns-after-fits_behind-clause-on
-returns-after-fits_behind-clause-on g c =
+pub returns-after-fits_after-clause-on : goal.returns-after-fits_after-clause-on
+returns-after-fits_after-clause-on g c =
     let d = c.args.depth in
     let word = c.args.word.now in
     let node : IsNode d word (entry_of c.in-Some.entry.now ∷ entries_of c.in-Some.others.now) = subst (λ xs. IsNode d word (entries_of xs)) c.in-Some.ensures.cases.0 c.requires.node in
@@ -34,8 +34,8 @@ returns-in_default-clause-on g c =
       | in_default-via-in_default w ↦ λ k e lt. absurd (omega (arith, lt, length-map c.args.node.now entry_of, w.in_default.ensures.cases))
     ]
 
-pub returns-after-fits_behind-clause-reach : goal.returns-after-fits_behind-clause-reach
-returns-after-fits_behind-clause-reach g c =
+pub returns-after-fits_after-clause-reach : goal.returns-after-fits_after-clause-reach
+returns-after-fits_after-clause-reach g c =
     let d = c.args.depth in
     let word = c.args.word.now in
     let e = entry_of c.in-Some.entry.now in
@@ -44,8 +44,8 @@ returns-after-fits_behind-clause-reach g c =
     let le : length e.flag ≤ d = omega (arith, c.if-flag-depth.true, ap length c.flag.ensures) in
     reach-ended d word e es node le ∙ ap (λ xs. max d (reach (entries_of xs) word)) (sym c.in-Some.ensures.cases.0)
 
-pub fits_behind-requires : goal.fits_behind-requires
-fits_behind-requires g c =
+pub fits_after-requires : goal.fits_after-requires
+fits_after-requires g c =
     let d = c.args.depth in
     let word = c.args.word.now in
     let e = entry_of c.in-Some.entry.now in

@@ -13,7 +13,7 @@ returns-in_err-digest c =
 pub digests-preserved : goal.digests-preserved
 digests-preserved c =
     let n = c.in_ok-digest.digest in
-    rw c.in_ok-push.ensures.items (times-goes_on (digest_at digest_digits) c.digests.all.items c.args.count c.digests.counter c.digests.rest.now (times_at (digest_at digest_digits) c.args.count c.args.bytes.now) n c.in_ok-digest.behind.now c.digests-test.true c.in_ok-digest.ensures c.digests.invariant)
+    rw c.in_ok-push.ensures.items (times-goes_on (digest_at digest_digits) c.digests.all.items c.args.count c.digests.counter c.digests.rest.now (times_at (digest_at digest_digits) c.args.count c.args.bytes.now) n c.in_ok-digest.after.now c.digests-test.true c.in_ok-digest.ensures c.digests.invariant)
 
 pub returns : goal.returns
 returns c = rw c.from_vec.ensures (times-done (digest_at digest_digits) c.digests.all.items c.args.count c.digests.counter c.digests.rest.now _ c.digests-test.false c.digests.invariant)

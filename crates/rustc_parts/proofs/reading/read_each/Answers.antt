@@ -12,7 +12,7 @@ returns-in_err-word c =
 pub words-preserved : goal.words-preserved
 words-preserved c =
     let n = c.in_ok-word.word in
-    rw c.in_ok-push.ensures.items (each-goes_on taken_at c.words.all.items c.args.lengths.now c.words.len-index c.words.rest.now (each_at taken_at c.args.lengths.now c.args.bytes.now) 0 n c.in_ok-word.behind.now c.words-test.true c.in_ok-word.ensures c.words.invariant)
+    rw c.in_ok-push.ensures.items (each-goes_on taken_at c.words.all.items c.args.lengths.now c.words.len-index c.words.rest.now (each_at taken_at c.args.lengths.now c.args.bytes.now) 0 n c.in_ok-word.after.now c.words-test.true c.in_ok-word.ensures c.words.invariant)
 
 pub returns : goal.returns
 returns c = rw c.from_vec.ensures (each-done taken_at c.words.all.items c.args.lengths.now c.words.len-index c.words.rest.now _ c.words-test.false c.words.invariant)

@@ -12,7 +12,7 @@ returns-in_err-dep c =
 pub deps-preserved : goal.deps-preserved
 deps-preserved c =
     let n = c.in_ok-dep.dep in
-    rw c.in_ok-push.ensures.items (each-goes_on env_dep_at c.deps.all.items c.args.are_set.now c.deps.is_set-index c.deps.rest.now (each_at env_dep_at c.args.are_set.now c.args.bytes.now) false n c.in_ok-dep.behind.now c.deps-test.true c.in_ok-dep.ensures c.deps.invariant)
+    rw c.in_ok-push.ensures.items (each-goes_on env_dep_at c.deps.all.items c.args.are_set.now c.deps.is_set-index c.deps.rest.now (each_at env_dep_at c.args.are_set.now c.args.bytes.now) false n c.in_ok-dep.after.now c.deps-test.true c.in_ok-dep.ensures c.deps.invariant)
 
 pub returns : goal.returns
 returns c = rw c.from_vec.ensures (each-done env_dep_at c.deps.all.items c.args.are_set.now c.deps.is_set-index c.deps.rest.now _ c.deps-test.false c.deps.invariant)

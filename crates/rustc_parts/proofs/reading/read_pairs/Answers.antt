@@ -12,7 +12,7 @@ returns-in_err-pair c =
 pub pairs-preserved : goal.pairs-preserved
 pairs-preserved c =
     let n = c.in_ok-pair.pair in
-    rw c.in_ok-push.ensures.items (times-goes_on pair_at c.pairs.all.items c.args.count c.pairs.counter c.pairs.rest.now (times_at pair_at c.args.count c.args.bytes.now) n c.in_ok-pair.behind.now c.pairs-test.true c.in_ok-pair.ensures c.pairs.invariant)
+    rw c.in_ok-push.ensures.items (times-goes_on pair_at c.pairs.all.items c.args.count c.pairs.counter c.pairs.rest.now (times_at pair_at c.args.count c.args.bytes.now) n c.in_ok-pair.after.now c.pairs-test.true c.in_ok-pair.ensures c.pairs.invariant)
 
 pub returns : goal.returns
 returns c = rw c.from_vec.ensures (times-done pair_at c.pairs.all.items c.args.count c.pairs.counter c.pairs.rest.now _ c.pairs-test.false c.pairs.invariant)

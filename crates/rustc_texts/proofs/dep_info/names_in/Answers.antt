@@ -16,19 +16,19 @@ loop-byte-preserved-in-Some-strip_prefix c =
 
 pub loop-byte-preserved-then-byte-eq32 : goal.loop-byte-preserved-then-byte-eq32
 loop-byte-preserved-then-byte-eq32 c =
-    let rest = c.in-Some.ensures.cases.0 ∙ ap (λ b. b ∷ c.in-Some.behind.now) c.if-byte-eq32.true in
+    let rest = c.in-Some.ensures.cases.0 ∙ ap (λ b. b ∷ c.in-Some.after.now) c.if-byte-eq32.true in
     let ended : c.from_vec.result ≡ c.loop-byte.name.items = c.from_vec.ensures ∙ ap (λ (v : Vec ℕ Global). v.items) c.replace.ensures.value in
     let begun : c.replace.new.dest.items ≡ [] = ap (λ (v : Vec ℕ Global). v.items) c.replace.ensures.after ∙ c.new.ensures.items in
-    more-ended _ c.loop-byte.names.items c.loop-byte.name.items c.loop-byte.rest.now c.loop-byte.invariant c.in-Some.behind.now rest
-    ∙ ap (λ (name : Bytes). (c.loop-byte.names.items ++ name ∷ []) ++ going_on [] (all_names 0 c.in-Some.behind.now)) (sym ended)
-    ∙ ap (λ (names : List Bytes). names ++ going_on [] (all_names 0 c.in-Some.behind.now)) (sym c.in_ok-push-2.ensures.items)
-    ∙ ap (λ (name : Bytes). c.push-then-byte-eq32.new.self.items ++ going_on name (all_names 0 c.in-Some.behind.now)) (sym begun)
+    more-ended _ c.loop-byte.names.items c.loop-byte.name.items c.loop-byte.rest.now c.loop-byte.invariant c.in-Some.after.now rest
+    ∙ ap (λ (name : Bytes). (c.loop-byte.names.items ++ name ∷ []) ++ going_on [] (all_names 0 c.in-Some.after.now)) (sym ended)
+    ∙ ap (λ (names : List Bytes). names ++ going_on [] (all_names 0 c.in-Some.after.now)) (sym c.in_ok-push-2.ensures.items)
+    ∙ ap (λ (name : Bytes). c.push-then-byte-eq32.new.self.items ++ going_on name (all_names 0 c.in-Some.after.now)) (sym begun)
 
 pub loop-byte-preserved : goal.loop-byte-preserved
 loop-byte-preserved c =
     let other : (c.in-Some.byte.now == 32) ≡ false = grind (arith, c.if-byte-eq32.false) in
-    more-letters _ c.loop-byte.names.items c.loop-byte.name.items c.loop-byte.rest.now c.loop-byte.invariant c.in-Some.byte.now c.in-Some.behind.now c.in-Some.ensures.cases.0 other c.in_default-strip_prefix.ensures.cases
-    ∙ ap (λ (name : Bytes). c.loop-byte.names.items ++ going_on name (all_names 0 c.in-Some.behind.now)) (sym c.in_ok-push-3.ensures.items)
+    more-letters _ c.loop-byte.names.items c.loop-byte.name.items c.loop-byte.rest.now c.loop-byte.invariant c.in-Some.byte.now c.in-Some.after.now c.in-Some.ensures.cases.0 other c.in_default-strip_prefix.ensures.cases
+    ∙ ap (λ (name : Bytes). c.loop-byte.names.items ++ going_on name (all_names 0 c.in-Some.after.now)) (sym c.in_ok-push-3.ensures.items)
 
 pub returns : goal.returns
 returns c =

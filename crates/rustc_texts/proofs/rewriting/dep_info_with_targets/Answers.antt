@@ -2,7 +2,7 @@ use Rattle.std.proofs.Common.{◌≡◌, Option, Some, List, ◌++◌, ap, sym, 
 use Rattle.std.specs.List.{after_first, before_first, flat_map, join_with_byte}
 use Rattle.std.specs.Option.{option_copied, option_map}
 use Rattle.base_files.specs.Bytes.{Bytes}
-use Rattle.rustc_texts.specs.DepInfo.{behind_colon}
+use Rattle.rustc_texts.specs.DepInfo.{after_colon}
 use Rattle.rustc_texts.specs.Rewriting.{is_line_end, phony_rule, prerequisites, rule_for, rules_of, where_any, without_line_end}
 use Rattle.rustc_texts.proofs.rewriting.dep_info_with_targets.Goals as goal
 
@@ -12,8 +12,8 @@ returns-clause-written c =
     let targets = c.args.targets.now in
     let extras = c.args.extras.now in
     let old = c.in_ok-old.old.now in
-    let found : behind_colon (before_first is_line_end text) ≡ Some old =
-    ap behind_colon (sym c.first_line.ensures.line) ∙ sym c.behind_colon.ensures ∙ ap option_copied c.in_ok-old.ensures.ok_part in
+    let found : after_colon (before_first is_line_end text) ≡ Some old =
+    ap after_colon (sym c.first_line.ensures.line) ∙ sym c.after_colon.ensures ∙ ap option_copied c.in_ok-old.ensures.ok_part in
     let wanted : c.as_bytes.result.now ≡ prerequisites old extras =
     c.as_bytes.ensures ∙ c.in_ok-wanted.ensures
     ∙ ap (λ (paths : List Bytes). join_with_byte 32 (paths ++ where_any old)) (c.as_slice.ensures.value ∙ c.in_ok-extras.ensures) in

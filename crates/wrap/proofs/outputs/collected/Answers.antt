@@ -10,7 +10,7 @@ loop-name-preserved c =
     let i = c.loop-name.name-index in
     let o = c.loop-name-item.result in
     let files = into_iter_items c.loop-name.rest in
-    rw c.next_file.ensures.behind (elim c.match-next_file.branch [
+    rw c.next_file.ensures.after (elim c.match-next_file.branch [
       | in-Some+in_ok-clone-in-Some+in_ok-push-in-Some w ↦
           let items : c.match-next_file.pairs.items ≡ map ++ (o.0, w.in-Some.contents) ∷ [] = search rules in
           rw items (gather_made map c.args.outputs.now i o files c.loop-name-test.true c.loop-name-item.is w.in-Some.contents (search rules) ∙ c.loop-name.invariant)

@@ -21,10 +21,10 @@ of-requires g c =
     let head : slice_get (entry_of first).flag 0 ≡ Some byte = ap (λ l. slice_get l 0) (sym (c.as_bytes.ensures.value ∙ c.flag.ensures)) ∙ sym c.in_ok-byte.ensures.value in
     let At = λ (e : ArgInfo g.row.T.Denot g.row.T-Kind.Denot). byte_at 0 (entry_of e) in
     let parted : IsPartitionPoint (λ e. nat_le (At e) byte ≡ true) (λ e. nat_le (At e) byte ≡ false) xs count = IsPartitionPoint-from_clause (λ e. nat_le (At e) byte) xs count c.partition_point-count.ensures.partitioned (IsPartitionedBy-leb At xs byte (firsts_rise xs first byte count c.requires one head)) (λ a r f k. search (rules, of_calls)) in
-    let behind = going_on_node 1 (byte ∷ []) (entries_of (take count xs)) (front_node xs first byte count c.requires one head c.partition_point-count.ensures.bound parted) in
+    let after = going_on_node 1 (byte ∷ []) (entries_of (take count xs)) (front_node xs first byte count c.requires one head c.partition_point-count.ensures.bound parted) in
     let is = c.going_on.ensures in
-    let node : IsNode 1 (byte ∷ []) (entries_of c.going_on.result.now) = subst (IsNode 1 (byte ∷ [])) (sym is) behind.0 in
-    record { rising = bytes_rise 1 (byte ∷ []) c.going_on.result.now node.rise node.begin (subst (All (GoesOn 1)) (sym is) behind.1) }
+    let node : IsNode 1 (byte ∷ []) (entries_of c.going_on.result.now) = subst (IsNode 1 (byte ∷ [])) (sym is) after.0 in
+    record { rising = bytes_rise 1 (byte ∷ []) c.going_on.result.now node.rise node.begin (subst (All (GoesOn 1)) (sym is) after.1) }
 
 pub returns : goal.returns
 returns g c =

@@ -15,9 +15,9 @@ returns-then-is_empty g c =
     let node = entries_of c.past_ended.result.1.now in
     let below = entries_of c.picked-node.result.now in
     let found = entry_at c.past_ended.result.0 in
-    let behind : longer found (longest_fit below word) ≡ longer found (longest_fit node word) = ap (longer found) (sym (below_fits d word node below c.loop-depth-test.true c.past_ended.ensures.node c.past_ended.ensures.on c.picked-node.ensures)) in
+    let after : longer found (longest_fit below word) ≡ longer found (longest_fit node word) = ap (longer found) (sym (below_fits d word node below c.loop-depth-test.true c.past_ended.ensures.node c.past_ended.ensures.on c.picked-node.ensures)) in
     let empty : length c.picked-node.result.now ≡ 0 = grind (arith, c.is_empty.ensures, c.if-is_empty.true) in
-    sym (ap (longer found) (none_fits word c.picked-node.result.now empty)) ∙ behind ∙ c.past_ended.ensures.fit ∙ c.loop-depth.invariant.1
+    sym (ap (longer found) (none_fits word c.picked-node.result.now empty)) ∙ after ∙ c.past_ended.ensures.fit ∙ c.loop-depth.invariant.1
 
 pub loop-depth-preserved : goal.loop-depth-preserved
 loop-depth-preserved g c =
@@ -26,8 +26,8 @@ loop-depth-preserved g c =
     let node = entries_of c.past_ended.result.1.now in
     let below = entries_of c.picked-node.result.now in
     let found = entry_at c.past_ended.result.0 in
-    let behind : longer found (longest_fit below word) ≡ longer found (longest_fit node word) = ap (longer found) (sym (below_fits d word node below c.loop-depth-test.true c.past_ended.ensures.node c.past_ended.ensures.on c.picked-node.ensures)) in
-    (below_node d word node below c.loop-depth-test.true c.past_ended.ensures.node c.past_ended.ensures.on c.picked-node.ensures, behind ∙ c.past_ended.ensures.fit ∙ c.loop-depth.invariant.1)
+    let after : longer found (longest_fit below word) ≡ longer found (longest_fit node word) = ap (longer found) (sym (below_fits d word node below c.loop-depth-test.true c.past_ended.ensures.node c.past_ended.ensures.on c.picked-node.ensures)) in
+    (below_node d word node below c.loop-depth-test.true c.past_ended.ensures.node c.past_ended.ensures.on c.picked-node.ensures, after ∙ c.past_ended.ensures.fit ∙ c.loop-depth.invariant.1)
 
 pub returns : goal.returns
 returns g c =

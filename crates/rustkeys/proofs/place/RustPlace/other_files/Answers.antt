@@ -46,8 +46,8 @@ returns-in_err-profile-clause-cause g c = λ moment.
     let on_later = FailsOn tree_of failed fails_on c.needed_where_named.new.files c.needed_where_named-2.new.files in
     let device_in = FailsIn g.A.Preprocessor.meaning g.A.Preprocessor.failed g.A.Preprocessor.fails_in c.args.answers.now c.archive_digests.new.answers in
     let fault = c.in_err-profile.field-0.0 in
-    let behind_archives : tree_of c.archive_digests.new.files ≡ tree = c.archive_digests.ensures.untouched.tree ∙ c.needed_in.ensures.untouched.tree in
-    let behind_target : tree_of c.needed_where_named.new.files ≡ tree = c.needed_where_named.ensures.untouched.tree ∙ behind_archives in
+    let after_archives : tree_of c.archive_digests.new.files ≡ tree = c.archive_digests.ensures.untouched.tree ∙ c.needed_in.ensures.untouched.tree in
+    let after_target : tree_of c.needed_where_named.new.files ≡ tree = c.needed_where_named.ensures.untouched.tree ∙ after_archives in
     let steady : failed c.needed_where_named.new.files ≡ failed c.args.files.now = c.in_ok-target.ensures.untouched.steady ∙ c.in_ok-archives.ensures.untouched.steady.1 ∙ c.in_ok-externs.ensures.untouched.steady in
     let externs = read_fault_of tree (extern_paths q) in
     let target = read_fault_of tree (option_to_list (target_path q)) in
@@ -55,10 +55,10 @@ returns-in_err-profile-clause-cause g c = λ moment.
     let own = read_fault_of (tree_of c.needed_where_named.new.files) (option_to_list (profile_path q)) in
     let no_extern : externs ≡ None = ap (λ (names : List Bytes). read_fault_of tree (map (join q.scene.dir) names)) (sym c.as_slice.ensures) ∙ ap (option_map Read) c.in_ok-externs.ensures.there in
     let no_digest : digest_fault_of archives ≡ None = ap (λ (paths : List Bytes). digest_fault_of (digested meaning q.scene paths)) (sym c.as_slice-2.ensures) ∙ c.in_ok-archives.ensures.fine q.scene (sym c.needed_in.ensures.untouched.tree) in
-    let no_target : target ≡ None = ap (λ (files : Tree). read_fault_of files (option_to_list (target_path q))) (sym behind_archives) ∙ ap (option_map Read) c.in_ok-target.ensures.there in
-    let same : profile ≡ own = ap (λ (files : Tree). read_fault_of files (option_to_list (profile_path q))) (sym behind_target) in
+    let no_target : target ≡ None = ap (λ (files : Tree). read_fault_of files (option_to_list (target_path q))) (sym after_archives) ∙ ap (option_map Read) c.in_ok-target.ensures.there in
+    let same : profile ≡ own = ap (λ (files : Tree). read_fault_of files (option_to_list (profile_path q))) (sym after_target) in
     on_exit (KeyCause (files_fault_of q archives) on_file device_in) c.from_residual-in_err-profile.result fault c.from_residual-in_err-profile.ensures.1
-    (key_cause_more own (files_fault_of q archives) on_later on_file no_step device_in (λ f e. second_is externs (or_else (digest_fault_of archives) (or_else target profile)) no_extern f (second_is (digest_fault_of archives) (or_else target profile) no_digest f (second_is target profile no_target f (same ∙ e)))) (since tree_of failed fails_on c.args.files.now c.needed_where_named.new.files c.needed_where_named-2.new.files behind_target steady) (λ step n. absurd n) fault (file_early (first_missing (tree_of c.needed_where_named.new.files) (option_to_list (profile_path q))) on_later fault c.in_err-profile.ensures.cause))
+    (key_cause_more own (files_fault_of q archives) on_later on_file no_step device_in (λ f e. second_is externs (or_else (digest_fault_of archives) (or_else target profile)) no_extern f (second_is (digest_fault_of archives) (or_else target profile) no_digest f (second_is target profile no_target f (same ∙ e)))) (since tree_of failed fails_on c.args.files.now c.needed_where_named.new.files c.needed_where_named-2.new.files after_target steady) (λ step n. absurd n) fault (file_early (first_missing (tree_of c.needed_where_named.new.files) (option_to_list (profile_path q))) on_later fault c.in_err-profile.ensures.cause))
 
 pub returns-in_err-externs-clause-once_each : goal.returns-in_err-externs-clause-once_each
 returns-in_err-externs-clause-once_each g c = none_for c.args.self.now.parsed.now.staticlibs _ _ refl

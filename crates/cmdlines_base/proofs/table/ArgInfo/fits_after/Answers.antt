@@ -1,7 +1,7 @@
 use Rattle.std.proofs.Common.{sym, ap, ◌∙◌}
 use Rattle.cmdlines_base.specs.Table.{entry_of, may_follow}
 use Rattle.cmdlines_base.proofs.NodeLemmas.{drop_whole, ended_fits}
-use Rattle.cmdlines_base.proofs.table.ArgInfo.fits_behind.Goals as goal
+use Rattle.cmdlines_base.proofs.table.ArgInfo.fits_after.Goals as goal
 
 pub returns : goal.returns
 returns g c =

@@ -1,6 +1,6 @@
 use Rattle.std.proofs.Common.{◌≡◌, ◌==◌, ◌+◌, ◌≤◌, not, length, take}
 use Rattle.std.specs.List.{suffix_len}
-use Rattle.base_files.proofs.path.behind_last.Given as goal
+use Rattle.base_files.proofs.path.index_after_last.Given as goal
 
 -- the bytes from the end on are other bytes
 abbrev pub invariant-loop-end : goal.invariant-loop-end

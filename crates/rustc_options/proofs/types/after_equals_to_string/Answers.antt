@@ -2,7 +2,7 @@ use Rattle.std.proofs.Common.{◌≡◌, ◌∙◌, [], ap, subst}
 use Rattle.base_files.specs.Bytes.{Bytes}
 use Rattle.cmdlines_base.specs.Texts.{PathText}
 use Rattle.rustc_options.specs.Splitting.{with_equals}
-use Rattle.rustc_options.proofs.types.behind_equals_to_string.Goals as goal
+use Rattle.rustc_options.proofs.types.after_equals_to_string.Goals as goal
 
 pub returns-clause-text : goal.returns-clause-text
 returns-clause-text g c =
