@@ -6,7 +6,7 @@ use base_files::{Files, MemoryFiles};
 use ckeys_records::{Fault, KeyConfig};
 use cmdlines::EachKind;
 use sccache_scenarios::{Scenario, ScenarioCall, read_scenario};
-use sccache_script_tool::{CrateTexts, ScriptTool, StatusOf, Statuses, error_status, print_status};
+use sccache_script_tool::{ScriptTool, StatusOf, Statuses, error_status, print_status};
 use sha2::Sha256;
 use std::alloc::{AllocError, Global};
 use tests_kit::{FailFiles, FailTool};
