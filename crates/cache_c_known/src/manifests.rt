@@ -3,7 +3,7 @@
 ghost use Rattle.std.specs.Prelude.{◌≡◌};
 
 use crate::known::Known;
-use base_files::{FileTime, OsBytes};
+use base_files::OsBytes;
 use base_formats::put_framed;
 use cache_dir::{CacheDirError, digest_of};
 use cache_files::manifests::FoundManifest;

@@ -2,7 +2,7 @@
 
 ghost use Rattle.std.specs.Prelude.{◌≡◌, IfOk};
 
-use base_files::{Listed, OsBytes};
+use base_files::Listed;
 use ckeys_records::output_name::OutputName;
 use std::alloc::{AllocError, Global};
 

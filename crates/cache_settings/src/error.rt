@@ -1,7 +1,7 @@
 //! Why settings can't be read or set.
 
 use std::alloc::{AllocError, AllocFailed};
-use std::{fmt, io};
+use std::fmt;
 
 /// Why settings can't be read or set.
 #[derive(Drop)]

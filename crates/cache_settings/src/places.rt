@@ -1,6 +1,6 @@
 //! Where files of settings are, and variables by their names.
 
-use std::alloc::{AllocError, Global};
+use std::alloc::Global;
 use std::fmt;
 
 /// The file of all users.

@@ -4,7 +4,7 @@ use crate::members::{into_list, into_text};
 use crate::scenario::ScenarioFault;
 use base_files::{Listed, OsBytes};
 use hex::FromHexError;
-use serde_json::{Map, Value};
+use serde_json::Value;
 use std::alloc::Global;
 
 impl From<FromHexError> for ScenarioFault {
