@@ -38,7 +38,7 @@ const MARKER_END: &[u8] = b"//\"\n";
 /// What stands in its place where debug information has another name for the folder.
 const WITHOUT_NAME: &[u8] = b"# 1 \"<folder>\"\n";
 
-/// The word after which the session is given such a word, so that include records alone depend on it: by their key the text isn't known yet.
+/// The word before which the session is given such a word, so that include records alone depend on it: by their key the text isn't known yet.
 const AS_FOLDER: &[u8] = b"-I";
 
 /// Whether a name is in markers as it is.

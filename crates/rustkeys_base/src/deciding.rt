@@ -15,6 +15,7 @@ use cmdlines_response_files::ParseFault;
 use rustc_options::parsed::ParsedArguments;
 use rustc_options::{ArgData, ArgOption, ArgTarget, joined_by_commas};
 use std::alloc::{AllocError, Global};
+use std::fmt::Write;
 
 /// Why there is no request that can be cached.
 #[derive(Drop)]
