@@ -13,7 +13,7 @@ use std::alloc::{AllocError, Global};
 use thiserror::Error;
 
 /// Why bytes with escapes can't be read.
-#[derive(Debug, Drop, Error)]
+#[derive(Clone, Copy, Debug, Error, PartialEq, Eq)]
 pub enum UnescapeError {
     /// A backslash is alone, or before what is no escape.
     #[error("bad escape")]

@@ -6,3 +6,4 @@ pub mod UnreadLaws
 pub mod DecodingLemmas
 pub mod GnuReadings
 pub mod MsvcReadings
+pub mod KnownFacts

@@ -1,12 +1,14 @@
 -- What a word opens, and what words become, word by word.
-use Rattle.std.proofs.Common.{◌≡◌, Bool, true, false, not, ◌&&◌, cond, ◌||◌, List, [], ◌∷◌, ◌++◌, Option, None, Some, length, refl, ap, sym, ◌∙◌, append-nil, append_assoc}
+use Rattle.std.proofs.Common.{◌≡◌, Bool, true, false, not, ◌&&◌, cond, ◌||◌, List, [], ◌∷◌, ◌++◌, Option, None, Some, refl, ap, sym, ◌∙◌, append-nil, append_assoc}
 use Rattle.std.specs.List.{list_any}
+use Rattle.std.specs.Option.{option_and_then}
 use Rattle.std.specs.Str.{bytes_eq}
 use Rattle.std.proofs.lemmas.List.Concat.{flat_map-cons}
 use Rattle.base_files.specs.Bytes.{Bytes}
 use Rattle.base_files.specs.Tree.{Tree, contents_at}
 use Rattle.cmdlines_response_files.specs.Closed.{closed_in, without}
 use Rattle.cmdlines_response_files.specs.Expansion.{opened_with, opened_text, opened_at, opened_by, in_place_of, expanded}
+use Rattle.cmdlines_response_files.specs.Known.{arguments_at}
 use Rattle.cmdlines_response_files.specs.Styles.{names_file, path_of, words_of}
 use Rattle.cmdlines_response_files.specs.declared.opening.Opened.{Opened}
 use Rattle.cmdlines_response_files.specs.declared.style.Style.{Style}
@@ -17,6 +19,19 @@ pub opened_as : (style : Style) (dir : Bytes) (held : Bytes → Bool) (tree : Tr
     path_of style dir word ≡ Some path → cond (held path) None (contents_at tree path) ≡ text → opened_by style dir (closed_in held tree) word ≡ opened_text style path text
 opened_as style dir held tree word path text p q =
     ap (opened_at style (closed_in held tree)) p ∙ ap (opened_text style path) (contents_at_closed held path tree ∙ q)
+
+-- a text opens what its arguments open
+opened_text-arguments : (style : Style) (path : Bytes) (text : Option Bytes) → opened_text style path text ≡ opened_with path (option_and_then (words_of style) text)
+opened_text-arguments style path None = refl
+opened_text-arguments style path (Some text) = refl
+
+-- a word that names a file which is open opens nothing
+pub opens_none : (style : Style) (dir : Bytes) (held : Bytes → Bool) (tree : Tree) (word path : Bytes) → path_of style dir word ≡ Some path → held path ≡ true → opened_by style dir (closed_in held tree) word ≡ None
+opens_none style dir held tree word path p open_already = opened_as style dir held tree word path None p (rw open_already refl)
+
+-- a word that names another one opens its arguments
+pub opens_arguments : (style : Style) (dir : Bytes) (held : Bytes → Bool) (tree : Tree) (word path : Bytes) → path_of style dir word ≡ Some path → held path ≡ false → opened_by style dir (closed_in held tree) word ≡ opened_with path (arguments_at style tree path)
+opens_arguments style dir held tree word path p closed = opened_as style dir held tree word path (contents_at tree path) p (rw closed refl) ∙ opened_text-arguments style path (contents_at tree path)
 
 module _ (style : Style) (dir : Bytes) (closed : Tree) where
   pub expanded-nil : expanded style dir closed [] ≡ []

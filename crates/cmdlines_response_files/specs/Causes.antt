@@ -1,5 +1,4 @@
 -- Why words aren't expanded.
-use Rattle.std.specs.Prelude.{Result, Ok, Err}
 use Rattle.base_files.specs.Bytes.{Bytes}
 use Rattle.cmdlines_response_files.specs.declared.fault.ParseFault.{ParseFault}
 use Rattle.cmdlines_response_files.specs.declared.fault.ParseFault.TheVariants.{Memory, Read}

@@ -12,3 +12,4 @@ pub mod Msvc
 pub mod Scanning
 pub mod Decoding
 pub mod Left
+pub mod Known

@@ -1,5 +1,5 @@
 -- How a compiler opens words.
-use Rattle.std.specs.Prelude.{ℕ, nat_eq, Bool, ◌||◌, ◌==◌, List, ◌++◌, length, drop, Option, None, Some, codes, if◌then◌else◌}
+use Rattle.std.specs.Prelude.{ℕ, nat_eq, Bool, ◌||◌, ◌==◌, List, length, drop, Option, None, Some, codes, if◌then◌else◌}
 use Rattle.std.specs.List.{list_any, starts_with}
 use Rattle.std.specs.Option.{option_map}
 use Rattle.base_files.specs.Bytes.{Bytes}

@@ -7,9 +7,11 @@ ghost use Rattle.cmdlines_response_files.specs.Asking.{IsAskedFor};
 ghost use Rattle.cmdlines_response_files.specs.Causes.{CauseOf};
 ghost use Rattle.cmdlines_response_files.specs.Closed.{without};
 ghost use Rattle.cmdlines_response_files.specs.Expansion.{expanded};
+ghost use Rattle.cmdlines_response_files.specs.Known.{AreTrue, arguments_at};
 
 use crate::chain::Chain;
 use crate::fault::ParseFault;
+use crate::known::KnownFiles;
 use crate::opening::{Opened, opened_by};
 use crate::style::Style;
 use crate::unread::{Part, Unread};
@@ -21,13 +23,16 @@ fn expand_file<F: Files>(
     alloc: Global,
     style: Style,
     dir: &OsBytes,
+    known: &mut KnownFiles,
     files: &mut F,
     file: Opened,
     out: &mut Vec<OsBytes>,
 ) -> Result<(), ParseFault>
+    requires { AreTrue known.old (arguments_at style (F.tree files.old)) }
     ensures words { OnOk result
         (out.new.items
         ≡ out.old.items ++ expanded style dir.now (without file.name (F.tree files.old)) file.words) }
+    ensures known { OnOk result (AreTrue known.new (arguments_at style (F.tree files.old))) }
     ensures cause { IfErr result (CauseOf (FilesFail F.Files files.old files.new)) }
     ensures asked { IfErr result
         (CauseOf (IsAskedFor style dir.now (without file.name (F.tree files.old)) file.words)) }
@@ -42,7 +47,7 @@ fn expand_file<F: Files>(
     while let Some(part) = unread.next() {
         match part {
             Part::End(name) => chain.close(&name),
-            Part::Word(word) => match opened_by(alloc, style, dir, &chain, files, &word)? {
+            Part::Word(word) => match opened_by(alloc, style, dir, &chain, known, files, &word)? {
                 None => out.push(word)?,
                 Some(found) => {
                     chain.open(&found.name)?;
@@ -72,11 +77,12 @@ pub fn expand<F: Files>(
     ensures memory { IsErrOf result ParseFault.Memory → F.failed files.new ≡ F.failed files.old }
 {
     let none = Chain::new(alloc);
+    let mut known = KnownFiles::new(alloc);
     let mut out = Vec::new(alloc);
     for word in words {
-        match opened_by(alloc, style, dir, &none, files, word)? {
+        match opened_by(alloc, style, dir, &none, &mut known, files, word)? {
             None => out.push(word.clone()?)?,
-            Some(file) => expand_file(alloc, style, dir, files, file, &mut out)?,
+            Some(file) => expand_file(alloc, style, dir, &mut known, files, file, &mut out)?,
         }
     }
     Ok(Listed::from_vec(out))

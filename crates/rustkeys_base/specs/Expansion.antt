@@ -21,9 +21,13 @@ path_of dir word = option_map (join dir) (after (codes "@") word)
 abbrev pub words_of_text : Bytes → Option (List Bytes)
 words_of_text text = if is_utf8 text then Some (rustc_lines text) else None
 
+-- the words of the file of that path
+abbrev pub words_in : Tree → Bytes → Option (List Bytes)
+words_in tree path = option_and_then words_of_text (contents_at tree path)
+
 -- the words of the file that a word names
 abbrev pub opened_by : Bytes → Tree → Bytes → Option (List Bytes)
-opened_by dir tree word = option_and_then words_of_text (option_and_then (contents_at tree) (path_of dir word))
+opened_by dir tree word = option_and_then (words_in tree) (path_of dir word)
 
 -- the file's words come in the word's place, and a word that opens no file stays
 abbrev pub in_place_of : Bytes → Tree → Bytes → List Bytes

@@ -8,15 +8,16 @@ ghost use Rattle.base_files.specs.Bytes.{Bytes};
 ghost use Rattle.base_files.specs.Tree.{Tree};
 ghost use Rattle.base_files.specs.Views.{FilesFail};
 ghost use Rattle.cmdlines_response_files.specs.Causes.{CauseOf};
+ghost use Rattle.cmdlines_response_files.specs.Known.{AreTrue};
 ghost use Rattle.cmdlines_response_files.specs.Styles.{after};
 ghost use Rattle.cmdlines_response_files.specs.Words.{Gives, Takes};
 ghost use Rattle.rustkeys_base.specs.Asking.{IsNamedIn};
-ghost use Rattle.rustkeys_base.specs.Expansion.{expanded_by_rustc, names_file, opened_by, path_of, words_of_text};
+ghost use Rattle.rustkeys_base.specs.Expansion.{expanded_by_rustc, names_file, opened_by, path_of, words_in, words_of_text};
 ghost use Rattle.rustkeys_base.specs.Words.{items_left};
 
 use crate::response_text::split_rust_response_file_args;
 use base_files::{FileFail, Files, Listed, OsBytes, join};
-use cmdlines_response_files::ParseFault;
+use cmdlines_response_files::{KnownFiles, ParseFault};
 use std::alloc::{AllocError, Global};
 use std::vec::IntoIter;
 
@@ -48,14 +49,48 @@ fn words_of_text(alloc: Global, bytes: &OsBytes) -> Result<Option<Listed<OsBytes
     }
 }
 
+/// The words of the file of that path. One that is known is neither read nor cut again.
+fn words_in<F: Files>(
+    alloc: Global,
+    known: &mut KnownFiles,
+    files: &mut F,
+    path: OsBytes,
+) -> Result<Option<Listed<OsBytes>>, ParseFault>
+    requires { AreTrue known.old (words_in (F.tree files.old)) }
+    ensures words { IfOk result (λ words. words ≡ words_in (F.tree files.old) path) }
+    ensures known { OnOk result (AreTrue known.new (words_in (F.tree files.old))) }
+    ensures cause { IfErr result (CauseOf (FilesFail F.Files files.old files.new)) }
+    ensures asked { IfErr result (CauseOf (λ name. path ≡ name)) }
+    ensures tree { F.tree files.new ≡ F.tree files.old }
+    ensures steady { OnOk result (F.failed files.new ≡ F.failed files.old) }
+    ensures memory { IsErrOf result ParseFault.Memory → F.failed files.new ≡ F.failed files.old }
+{
+    if let Some(words) = known.get(&path)? {
+        return Ok(words);
+    }
+    match files.read(alloc, &path) {
+        Ok(Some(text)) => {
+            let words = words_of_text(alloc, &text)?;
+            known.note(&path, text.as_bytes(), &words)?;
+            Ok(words)
+        }
+        Ok(None) => Ok(None),
+        Err(FileFail::Memory) => Err(ParseFault::Memory),
+        Err(FileFail::Device) => Err(ParseFault::Read(path)),
+    }
+}
+
 /// The words of the file that a word names.
 fn opened_by<F: Files>(
     alloc: Global,
     dir: &OsBytes,
+    known: &mut KnownFiles,
     files: &mut F,
     word: &OsBytes,
 ) -> Result<Option<Listed<OsBytes>>, ParseFault>
+    requires { AreTrue known.old (words_in (F.tree files.old)) }
     ensures opened { IfOk result (λ words. words ≡ opened_by dir.now (F.tree files.old) word.now) }
+    ensures known { OnOk result (AreTrue known.new (words_in (F.tree files.old))) }
     ensures cause { IfErr result (CauseOf (FilesFail F.Files files.old files.new)) }
     ensures asked { IfErr result (CauseOf (λ name. path_of dir.now word.now ≡ Some name)) }
     ensures tree { F.tree files.new ≡ F.tree files.old }
@@ -65,12 +100,7 @@ fn opened_by<F: Files>(
     let Some(path) = path_of(alloc, dir, word)? else {
         return Ok(None);
     };
-    match files.read(alloc, &path) {
-        Ok(Some(text)) => Ok(words_of_text(alloc, &text)?),
-        Ok(None) => Ok(None),
-        Err(FileFail::Memory) => Err(ParseFault::Memory),
-        Err(FileFail::Device) => Err(ParseFault::Read(path)),
-    }
+    words_in(alloc, known, files, path)
 }
 
 /// What rustc's words become once the files that they name are opened, from that directory. A word whose file isn't there, or isn't
@@ -89,9 +119,10 @@ pub fn expand_rustc<F: Files>(
     ensures steady { OnOk result (F.failed files.new ≡ F.failed files.old) }
     ensures memory { IsErrOf result ParseFault.Memory → F.failed files.new ≡ F.failed files.old }
 {
+    let mut known = KnownFiles::new(alloc);
     let mut out = Vec::new(alloc);
     for word in words {
-        match opened_by(alloc, dir, files, word)? {
+        match opened_by(alloc, dir, &mut known, files, word)? {
             Some(lines) => out.append(&mut lines.into_vec())?,
             None => out.push(word.clone()?)?,
         }

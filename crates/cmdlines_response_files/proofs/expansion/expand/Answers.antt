@@ -1,4 +1,4 @@
-use Rattle.std.proofs.Common.{◌≡◌, ◌++◌, ◌<◌, ◌+◌, List, [], ◌∷◌, Some, length, drop, drop-cons, add-one, suc, ap, sym, subst, ◌∙◌, arith, append-nil}
+use Rattle.std.proofs.Common.{rules, refl, ◌≡◌, ◌++◌, ◌<◌, ◌+◌, List, [], ◌∷◌, Some, length, drop, drop-cons, add-one, suc, ap, sym, subst, ◌∙◌, arith, append-nil}
 use Rattle.std.specs.List.{Contains}
 use Rattle.std.specs.declared.alloc.Global.{Global}
 use Rattle.std.specs.declared.vec.Vec.{Vec}
@@ -11,7 +11,9 @@ use Rattle.cmdlines_response_files.specs.Causes.{CauseOf}
 use Rattle.cmdlines_response_files.specs.Chains.{is_open}
 use Rattle.cmdlines_response_files.specs.Closed.{closed_in, without}
 use Rattle.cmdlines_response_files.specs.Expansion.{expanded, opened_by}
+use Rattle.cmdlines_response_files.specs.Known.{AreTrue, arguments_at}
 use Rattle.cmdlines_response_files.specs.Styles.{path_of}
+use Rattle.cmdlines_response_files.specs.declared.known.KnownFiles.{KnownFiles}
 use Rattle.cmdlines_response_files.proofs.ClosedLaws.{closed_all}
 use Rattle.cmdlines_response_files.proofs.OpeningLaws.{expanded-nil, kept_word, opened_word}
 use Rattle.cmdlines_response_files.proofs.UnreadLaws.{cause_by, on_exit}
@@ -54,6 +56,9 @@ returns-in_err-expand_file-in-Some-clause-asked g c =
     (λ name h. in_file {word = word} {opened = file} among opens (subst (λ (t : Tree). IsAskedFor style dir (without file.name t) file.words name) later h))
     fault c.in_err-expand_file-in-Some.ensures.asked)
 
+pub loop-word-init : goal.loop-word-init
+loop-word-init g c = record { told = search rules; known = c.new-known.ensures (arguments_at c.args.style (g.F.Files.tree c.args.files.now)); tree = refl; steady = refl }
+
 pub loop-word-preserved : goal.loop-word-preserved
 loop-word-preserved g c =
     let tree = g.F.Files.tree c.args.files.now in
@@ -77,6 +82,7 @@ loop-word-preserved g c =
           let out : c.match-branch-2.out.items ≡ so_far ++ word ∷ [] = cc (w.in_ok-push-in-None.ensures.items, copy, w.out-is) in
           record {
             told = ap (λ (l : List Bytes). l ++ expanded style dir tree (drop (i + 1) words)) out ∙ kept_word style dir tree word (drop (i + 1) words) so_far (found ∙ w.in-None.is) ∙ before;
+            known = subst (λ (t : Tree). AreTrue c.match-branch-2.known (arguments_at style t)) inv.tree (subst (λ (k : KnownFiles). AreTrue k (arguments_at style (g.F.Files.tree c.loop-word.files))) (sym w.known-is) c.in_ok-opened_by.ensures.known);
             tree = ap g.F.Files.tree w.files-is ∙ later;
             steady = ap g.F.Files.failed w.files-is ∙ c.in_ok-opened_by.ensures.steady ∙ inv.steady;
           }
@@ -85,6 +91,7 @@ loop-word-preserved g c =
           let out : c.match-branch-2.out.items ≡ so_far ++ expanded style dir (without file.name tree) file.words = ap (λ (v : Vec Bytes Global). v.items) w.out-is ∙ w.in_ok-expand_file-in-Some.ensures.words ∙ ap (λ (t : Tree). so_far ++ expanded style dir (without file.name t) file.words) later in
           record {
             told = ap (λ (l : List Bytes). l ++ expanded style dir tree (drop (i + 1) words)) out ∙ opened_word style dir tree word (drop (i + 1) words) so_far file (found ∙ w.in-Some.is) ∙ before;
+            known = subst (λ (t : Tree). AreTrue c.match-branch-2.known (arguments_at style t)) later (subst (λ (k : KnownFiles). AreTrue k (arguments_at style (g.F.Files.tree c.opened_by.new.files))) (sym w.known-is) w.in_ok-expand_file-in-Some.ensures.known);
             tree = ap g.F.Files.tree w.files-is ∙ w.in_ok-expand_file-in-Some.ensures.tree ∙ later;
             steady = ap g.F.Files.failed w.files-is ∙ w.in_ok-expand_file-in-Some.ensures.steady ∙ c.in_ok-opened_by.ensures.steady ∙ inv.steady;
           }

@@ -6,6 +6,7 @@ use Rattle.cmdlines_response_files.specs.Causes.{CauseOf}
 use Rattle.cmdlines_response_files.specs.Chains.{is_open}
 use Rattle.cmdlines_response_files.specs.Closed.{closed_in, without}
 use Rattle.cmdlines_response_files.specs.Expansion.{expanded, opened_by}
+use Rattle.cmdlines_response_files.specs.Known.{AreTrue, arguments_at}
 use Rattle.cmdlines_response_files.specs.Styles.{path_of}
 use Rattle.cmdlines_response_files.specs.Unread.{parts_of}
 use Rattle.cmdlines_response_files.specs.declared.unread.Part.{Part}
@@ -28,6 +29,7 @@ loop-part-init g c =
     record {
       told = ap (λ (l : List Bytes). out ++ l) (ap (become style dir tree wider) parts ∙ become-file style dir tree held wider file [] c.in_ok-open.ensures.opened (c.new-chain.ensures file.name) ∙ append-nil _ ∙ ap (λ (t : Tree). expanded style dir (without file.name t) file.words) all);
       asked = λ name h. asked_alone style dir (closed_in held tree) tree all file name (ask-file style dir tree held wider file [] c.in_ok-open.ensures.opened (c.new-chain.ensures file.name) name (subst (λ (l : List Part). AskFor style dir tree wider l name) parts h));
+      known = c.requires;
       tree = refl;
       steady = refl;
     }
@@ -44,6 +46,7 @@ loop-part-preserved-in-End g c =
     record {
       told = ap (λ (l : List Bytes). c.loop-part.out.items ++ l) (become-same style dir tree (is_open c.close.new.self) (shut c.in-End.name held) c.close.ensures rest ∙ ap (become style dir tree held) (sym left)) ∙ inv.told;
       asked = λ name h. inv.asked name (subst (λ (l : List Part). AskFor style dir tree held l name) (sym left) (ask-same style dir tree (is_open c.close.new.self) (shut c.in-End.name held) c.close.ensures rest name h));
+      known = inv.known;
       tree = inv.tree;
       steady = inv.steady;
     }
@@ -87,6 +90,7 @@ loop-part-preserved-in-Continue-branch-5 g c =
     record {
       told = ap (λ (l : List Bytes). l ++ become style dir tree held rest) c.in_ok-push-in-None.ensures.items ∙ append_assoc out (word ∷ []) (become style dir tree held rest) ∙ ap (λ (l : List Bytes). out ++ l) (sym stays) ∙ inv.told;
       asked = λ name h. inv.asked name (subst (λ (l : List Part). AskFor style dir tree held l name) (sym left) (inr h));
+      known = subst (λ (t : Tree). AreTrue c.opened_by.new.known (arguments_at style t)) inv.tree c.in_ok-opened_by-in-Word.ensures.known;
       tree = c.in_ok-opened_by-in-Word.ensures.tree ∙ inv.tree;
       steady = c.in_ok-opened_by-in-Word.ensures.steady ∙ inv.steady;
     }
@@ -124,6 +128,7 @@ loop-part-preserved g c =
     record {
       told = ap (λ (l : List Bytes). c.loop-part.out.items ++ l) (ap (become style dir tree wider) added ∙ become-opens style dir tree held wider word file rest c.in_ok-open-in-Some-2.ensures.opened opens ∙ ap (become style dir tree held) (sym left)) ∙ inv.told;
       asked = λ name h. inv.asked name (subst (λ (l : List Part). AskFor style dir tree held l name) (sym left) (ask-opens style dir tree held wider word file rest c.in_ok-open-in-Some-2.ensures.opened opens name (subst (λ (l : List Part). AskFor style dir tree wider l name) added h)));
+      known = subst (λ (t : Tree). AreTrue c.opened_by.new.known (arguments_at style t)) inv.tree c.in_ok-opened_by-in-Word.ensures.known;
       tree = c.in_ok-opened_by-in-Word.ensures.tree ∙ inv.tree;
       steady = c.in_ok-opened_by-in-Word.ensures.steady ∙ inv.steady;
     }

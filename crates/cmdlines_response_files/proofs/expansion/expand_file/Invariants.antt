@@ -4,6 +4,7 @@ use Rattle.cmdlines_response_files.specs.Asking.{IsAskedFor}
 use Rattle.cmdlines_response_files.specs.Chains.{is_open}
 use Rattle.cmdlines_response_files.specs.Closed.{without}
 use Rattle.cmdlines_response_files.specs.Expansion.{expanded}
+use Rattle.cmdlines_response_files.specs.Known.{AreTrue, arguments_at}
 use Rattle.cmdlines_response_files.specs.Unread.{parts_of}
 use Rattle.cmdlines_response_files.proofs.UnreadLaws.{AskFor, become, turns_left}
 use Rattle.cmdlines_response_files.proofs.expansion.expand_file.Given as goal
@@ -18,6 +19,7 @@ invariant-loop-part g l =
     record {
       told : l.out.items ++ become l.style l.dir tree held parts ≡ l.fn.out.items ++ expanded l.style l.dir closed l.fn.file.words;
       asked : (name : Bytes) → AskFor l.style l.dir tree held parts name → IsAskedFor l.style l.dir closed l.fn.file.words name;
+      known : AreTrue l.known (arguments_at l.style tree);
       tree : g.F.Files.tree l.files ≡ tree;
       steady : g.F.Files.failed l.files ≡ g.F.Files.failed l.fn.files;
     }
