@@ -126,22 +126,25 @@ static int is_program(const char *path) {
     return !stat(path, &file) && S_ISREG(file.st_mode) && file.st_mode & 0111 && !is_self(path, &file);
 }
 
-/* The program: the one that GULMAAT_BIN names, or where an installation has it, or beside this host. If it isn't there, says so. */
+/* The program: the one that GULMAAT_BIN names, or beside this host, or where an installation has it: its host is in a directory called bin. A
+ * program in any other directory isn't the owner's of this host. If it isn't there, says so. */
 const char *find_program(void) {
     static char program[PATH_MAX + 32];
     const char *named = getenv("GULMAAT_BIN"), *slash = strrchr(self, '/');
-    int size = slash ? (int)(slash - self) : 0;
+    int size = slash ? (int)(slash - self) : 0, is_installed = size >= 4 && !strncmp(slash - 4, "/bin", 4);
     if (named && is_program(named)) return named;
     if (named) {
         fprintf(stderr, "gulmaat: its program isn't at %s: set GULMAAT_BIN to it\n", named);
         return NULL;
     }
-    snprintf(program, sizeof program, "%.*s/../lib/gulmaat/gulmaat", size, self);
-    if (is_program(program)) return program;
     snprintf(program, sizeof program, "%.*s/gulmaat", size, self);
     if (is_program(program)) return program;
-    fprintf(stderr, "gulmaat: its program isn't at %.*s/../lib/gulmaat/gulmaat nor, beside this, at %s: set GULMAAT_BIN to it, or run "
-        "bin/build\n", size, self, program);
+    if (is_installed) {
+        snprintf(program, sizeof program, "%.*s/../lib/gulmaat/gulmaat", size, self);
+        if (is_program(program)) return program;
+    }
+    fprintf(stderr, "gulmaat: its program isn't at %.*s/gulmaat, beside this%s%.*s%s: set GULMAAT_BIN to it, or run bin/build\n", size, self,
+        is_installed ? ", nor at " : "", is_installed ? size : 0, self, is_installed ? "/../lib/gulmaat/gulmaat" : "");
     return NULL;
 }
 

@@ -211,11 +211,10 @@ static int answer_questions(int from, int to) {
 
 /* Waits for the program to end, and returns its status. After a signal that stops this process there is time for it to write its outputs, but
  * not to wait for another call. */
-static int end_of(pid_t child, int from) {
+static int end_of(pid_t child) {
     int status = 1 << 8;
-    struct pollfd end = {from, 0, 0};
     while (!stopped && waitpid(child, &status, 0) < 0 && errno == EINTR) {}
-    if (stopped && poll(&end, 1, PATIENCE) > 0) waitpid(child, &status, WNOHANG);
+    for (int waited = 0; stopped && waited < PATIENCE && !waitpid(child, &status, WNOHANG); waited++) poll(NULL, 0, 1);
     return status;
 }
 
@@ -301,7 +300,9 @@ int main(int count, char **list) {
     int compiled = -1;
     if (send_message(to)) close(to);
     else compiled = answer_questions(from, to);
-    int status = end_of(child, from);
+    /* Nothing more is read: a program that still writes a question sees that, and ends. After a signal it may still say something for the log. */
+    if (!stopped) close(from);
+    int status = end_of(child);
     if (compiled >= 0) write_line(compiled);
     if (compiled >= 0 && WIFEXITED(compiled)) return WEXITSTATUS(compiled);
     if (compiled >= 0) end_by(WTERMSIG(compiled));

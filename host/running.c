@@ -9,6 +9,7 @@
 #include <string.h>
 #include <sys/ioctl.h>
 #include <sys/mman.h>
+#include <sys/prctl.h>
 #include <sys/resource.h>
 #include <sys/wait.h>
 #include <unistd.h>
@@ -139,11 +140,13 @@ void pass_through(void) {
 /* ---- Processes. */
 
 /* Starts a file with these words and with these files as its first three; -1 leaves one as it is. The program has the files in memory, and no
- * signal stops it. A compiler has what the caller had, and the list where it is asked for. */
+ * signal stops it. A compiler has what the caller had, and the list where it is asked for. Both end where this process is killed: the caller
+ * takes the call for dead then, so nothing may write an output later, over that of another call. */
 static pid_t launch(const char *file, char **line, const int files[3], int is_program, int has_list) {
     fault = 0;
-    pid_t child = vfork();
+    pid_t host = getpid(), child = vfork();
     if (child != 0) return child;
+    if (prctl(PR_SET_PDEATHSIG, SIGKILL) || getppid() != host) { fault = ESRCH; _exit(127); }
     for (int i = 0; i < 3; i++)
         if (files[i] >= 0 && dup2(files[i], i) < 0) { fault = errno; _exit(127); }
     if (!is_program) {
@@ -202,7 +205,7 @@ struct stream { int from, to, note; };
 
 /* Shows and records what a stream has, at most so much. At its end it is closed. */
 static ssize_t take(struct stream *stream, size_t most) {
-    char part[65536];
+    static char part[65536];
     ssize_t size = read(stream->from, part, most < sizeof part ? most : sizeof part);
     if (size < 0 && errno == EINTR) return 0;
     if (size <= 0) {

@@ -179,7 +179,7 @@ static size_t without_colours(char *to, const char *from, size_t size) {
 }
 
 static void show(int to, const char *part, size_t size) {
-    char plain[65536 + sizeof held];
+    static char plain[65536 + sizeof held];
     if (to == 2 && takes_out) {
         size = without_colours(plain, part, size);
         part = plain;
@@ -218,7 +218,7 @@ void end_messages(void) {
 
 /* Shows what is in a file in memory. */
 static int show_file(int file, int to) {
-    char part[65536];
+    static char part[65536];
     ssize_t size;
     for (off_t at = 0; (size = pread(file, part, sizeof part, at)) > 0; at += size) {
         /* GCC clears the line after each colour, and Clang doesn't. */

@@ -18,7 +18,8 @@ static enum came_to connect_to(const struct storage *storage) {
 static enum came_to fault(void) { return errno == ENOENT || errno == ENOTDIR ? MISSED : FAILED; }
 
 static enum came_to get(const struct storage *storage, const char *name, struct bytes *found, size_t most) {
-    char place[PATH_MAX], part[65536];
+    static char part[65536];
+    char place[PATH_MAX];
     if (place_of(storage, name, place, sizeof place)) return FAILED;
     int file = open(place, O_RDONLY | O_CLOEXEC);
     if (file < 0) return fault();

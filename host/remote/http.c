@@ -66,14 +66,15 @@ static enum came_to connect_to(const struct storage *storage) {
     lines = append(NULL, "Expect:");
     lines = append(lines, "Content-Type: application/octet-stream");
     if (storage->token) {
-        snprintf(right, sizeof right, "Authorization: Bearer %s", storage->token);
+        int size = snprintf(right, sizeof right, "Authorization: Bearer %s", storage->token);
+        if (size < 0 || (size_t)size >= sizeof right) return FAILED;
         lines = append(lines, right);
     }
     asked = easy_init();
     return asked ? CAME : FAILED;
 }
 
-/* Makes a request about a name. What comes with another answer than 2xx is left out. */
+/* Makes a request about a name. Only an answer 2xx is a success: no redirection is followed, and what comes with one isn't what was asked for. */
 static enum came_to ask(const struct storage *storage, const char *name) {
     static char place[LONGEST];
     long code = 0, rest = time_left();
@@ -86,7 +87,9 @@ static enum came_to ask(const struct storage *storage, const char *name) {
     set(asked, CURLOPT_CONNECTTIMEOUT_MS, storage->connect);
     set(asked, CURLOPT_TIMEOUT_MS, rest);
     switch (perform(asked)) {
-    case CURLE_OK: return CAME;
+    case CURLE_OK:
+        get_info(asked, CURLINFO_RESPONSE_CODE, &code);
+        return code >= 200 && code < 300 ? CAME : FAILED;
     case CURLE_OPERATION_TIMEDOUT: return LATE;
     case CURLE_HTTP_RETURNED_ERROR:
         get_info(asked, CURLINFO_RESPONSE_CODE, &code);

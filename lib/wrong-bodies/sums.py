@@ -2,8 +2,8 @@
 
     python3 lib/wrong-bodies/sums.py stale [CRATE..]    names the crates with edits whose sum is another one now, or none
 
-The sum is of the crate's own sources, specs, proofs and edits, of the kit's version, and of what the crates below promise: their specs, and their
-sources without what functions do. Comments, and how lines are cut, don't count.
+The sum is of the crate's own sources, specs, proofs and edits, and of what the crates below promise: their specs, and their sources without what
+functions do. Comments, imports, how lines are cut and the kit's version don't count, so that what changes none of this doesn't void it.
 """
 
 import functools
@@ -11,11 +11,12 @@ import glob
 import hashlib
 import os
 import re
-import subprocess
 import sys
 
 from places import TOKEN, functions
 
+# An import, also a public one and a ghost's.
+IMPORT = re.compile(r"^\s*(?:pub |ghost )?use [^;\n{]*(?:\{[^{}]*\}|\{(?:[^{}]|\{[^{}]*\})*\})?;?$", re.M)
 TOP = os.path.dirname(os.path.dirname(os.path.dirname(os.path.realpath(__file__))))
 
 
@@ -60,9 +61,9 @@ def plain(path, is_below=False):
         text = it.read()
     if path.endswith(".rt"):
         text = without_comments(text)
-        text = without_bodies(text) if is_below else text
+        text = IMPORT.sub("", without_bodies(text) if is_below else text)
     elif path.endswith(".antt"):
-        text = re.sub(r"(^|\s)--\s.*", "", text)
+        text = IMPORT.sub("", re.sub(r"(^|\s)--\s.*", "", text))
     return " ".join(text.split())
 
 
@@ -74,15 +75,9 @@ def files(crate, *parts):
     return sorted(it for it in found if os.path.isfile(it))
 
 
-@functools.lru_cache(maxsize=None)
-def kit():
-    """The kit's version, as it prints it."""
-    return subprocess.run(["rt", "version"], capture_output=True, check=True).stdout
-
-
 def sum_of(crate, below):
     """The sum of all that a verdict on the crate's edits depends on."""
-    sum = hashlib.sha256(kit())
+    sum = hashlib.sha256()
     for path in files(crate, "src/**/*", "specs/**/*", "proofs/**/*", "wrong-bodies/*.edit", "must-fail/*.edit"):
         sum.update(repr((os.path.relpath(path, TOP), plain(path))).encode())
     for other in below[crate]:

@@ -14,7 +14,7 @@ use Rattle.base_files.specs.Tree.{contents_at}
 use Rattle.ckeys_base.specs.Hex.{hex_of}
 use Rattle.ckeys_base.specs.Shelf.{Shelf, Asks, Puts, Within}
 use Rattle.ckeys_time_macros.specs.Macros.{holds_date, holds_timestamp}
-use Rattle.ckeys_include_records.specs.LookUps.{LooksUp}
+use Rattle.ckeys_include_records.specs.LookUps.{LooksUp, NoneAbove}
 use Rattle.ckeys_include_records.specs.Records.{Record, result_with}
 use Rattle.ckeys_include_records.specs.Results.{with_result}
 use Rattle.ckeys_include_records.specs.Surroundings.{Place, are_there, contents_in, dated, fits_contents, in_front, include_with, included, includes_of, is_the, lacks_day, path_at, second_at, stamped}
@@ -25,7 +25,7 @@ use Rattle.ckeys.specs.Calls.{KeyCall, PrintedCall, early_fault_of, input_path, 
 use Rattle.ckeys_records.specs.Faults.{preprocess_fault_of, read_fault_of, first_missing, or_else}
 use Rattle.ckeys_records.specs.Meaning.{text_in}
 use Rattle.ckeys.specs.Entries.{AreTrue, HasMatch, Held, IsFramed, IsOwnResult, entry_key_by, entry_key_of, good_text, has_entry_key, includes_by}
-use Rattle.ckeys.specs.EntryTurns.{EntryTurn, Gains, IsHeldFor, IsJoined, IsOwnPair, IsPut, IsSpared, IsToldOf, Keeps, KeptOn, KeyFine, KeyFrom, KeyRecorded, PutsJoined, PutsNone, TextFine, results_of}
+use Rattle.ckeys.specs.EntryTurns.{EntryTurn, Gains, IsGreatest, IsHeldFor, IsJoined, IsOwnPair, IsPut, IsSpared, IsToldOf, Keeps, KeptOn, KeyFine, KeyFrom, KeyRecorded, PutsJoined, PutsNone, TextFine, results_of}
 use Rattle.ckeys_records.specs.Keys.{key_of}
 use Rattle.ckeys.specs.Surroundings.{named_at, place_of, recorded_of}
 use Rattle.ckeys_records.specs.declared.fault.Fault.{Fault}
@@ -150,6 +150,15 @@ module _ (digest_of : Bytes → Bytes) (p : PrintedCall) (key : EntryKey) (is_en
   from_record text_key found =
       let it = results_in (asked.held key) found.0 found.1 in
       record { key = key; is_entry = is_entry; entry = it.0; is_held = asks.within key it.0 it.1; r = found.0; among = it.2; is_key = found.2; there = found.3 }
+
+  -- and none that matches has a greater key
+  pub greatest_recorded : (text_key : Bytes) → LooksUp digest_of (place_of p.call) (results_of (asked.held key)) (Some text_key) → NoneAbove digest_of (place_of p.call) (results_of (asked.held key)) text_key → IsGreatest digest_of p old.held text_key
+  greatest_recorded text_key found none k entry is_key is_held r among there =
+      let it = results_in (asked.held key) found.0 found.1 in
+      let same_key : k ≡ key = some_same _ _ (sym is_key ∙ is_entry) in
+      let same : entry ≡ it.0 = some_same _ _ (sym (ap old.held (sym same_key) ∙ is_held) ∙ asks.within key it.0 it.1) in
+      let inside : Contains (results_of (asked.held key)) r = subst (λ (o : Option Record). Contains (results_of o) r) (sym it.1) (subst (λ (e : Record). Contains e.results r) same among) in
+      none r inside there
 
   -- it is still held then, and the look-up was the only one
   pub found_recorded : (text_key : Bytes) → LooksUp digest_of (place_of p.call) (results_of (asked.held key)) (Some text_key) → KeyRecorded digest_of p old asked true text_key

@@ -3,7 +3,7 @@ use Rattle.std.specs.Prelude.{◌≡◌, ◌⊎◌, ℕ, Bool, true, false, if�
 use Rattle.std.specs.List.{Contains}
 use Rattle.base_files.specs.Bytes.{Bytes, ticked}
 use Rattle.ckeys_base.specs.Shelf.{Shelf, KeepsKeys, Puts, Within}
-use Rattle.ckeys_include_records.specs.LookUps.{LooksUp}
+use Rattle.ckeys_include_records.specs.LookUps.{LooksUp, NoneAbove}
 use Rattle.ckeys_include_records.specs.Records.{Record, result_with}
 use Rattle.ckeys_include_records.specs.Results.{HasMore, with_result}
 use Rattle.ckeys_include_records.specs.Surroundings.{Place}
@@ -11,7 +11,7 @@ use Rattle.ckeys_include_records.specs.declared.entry.CachedResult.{CachedResult
 use Rattle.ckeys_include_records.specs.declared.entry.IncludeEntry.{IncludeEntry}
 use Rattle.ckeys_include_records.specs.declared.entry_key.EntryKey.{EntryKey}
 use Rattle.ckeys.specs.Calls.{PrintedCall, key_fault_by, record_by, text_fault_by}
-use Rattle.ckeys.specs.Entries.{Held, HasMatch, IsFramed, IsOwnResult, entry_key_of, good_text, has_entry_key, includes_by}
+use Rattle.ckeys.specs.Entries.{Held, HasMatch, IsFramed, IsOwnResult, entry_key_of, good_text, has_entry_key, includes_by, place_of}
 use Rattle.ckeys_records.specs.Causes.{step_of}
 use Rattle.ckeys_records.specs.Meaning.{AtMostOnce}
 use Rattle.ckeys_records.specs.Keys.{key_of}
@@ -26,6 +26,15 @@ use Rattle.ckeys_records.specs.declared.step.Step.TheVariants.{Preprocess, Compi
 abbrev pub KeyFrom : (Bytes → Bytes) → PrintedCall → Held → Bool → Bytes → Type 0
 KeyFrom digest_of p held true text_key = IsFramed digest_of p.call × HasMatch digest_of p.call held text_key
 KeyFrom digest_of p held false text_key = text_key ≡ key_of digest_of (record_by p)
+
+-- no matching result that is held under the call's entry key has a greater key
+abbrev pub IsGreatest : (Bytes → Bytes) → PrintedCall → Held → Bytes → Type 0
+IsGreatest digest_of p held text_key = (key : EntryKey) (entry : Record) → entry_key_of digest_of p.call ≡ Some key → held key ≡ Some entry → NoneAbove digest_of (place_of p.call) entry.results text_key
+
+-- a key that a record gave is that of the greatest matching result
+abbrev pub IsGreatestFrom : (Bytes → Bytes) → PrintedCall → Held → Bool → Bytes → Type 0
+IsGreatestFrom digest_of p held true text_key = IsGreatest digest_of p held text_key
+IsGreatestFrom digest_of p held false text_key = Unit {0}
 
 -- the first fault, where a record gave the key: none, or that of the preprocessor, which didn't run
 abbrev pub IsSpared : Option Fault → Type 0
@@ -146,6 +155,11 @@ pub record EntryTurn (digest_of : Bytes → Bytes) (p : PrintedCall) (old new : 
 abbrev pub IsKnown : (Bytes → Bytes) → Place → Option Record → Known → Type 0
 IsKnown digest_of place held (Found text_key) = LooksUp digest_of place (results_of held) (Some text_key)
 IsKnown digest_of place held (Missed entry) = (entry.results ≡ results_of held) × LooksUp digest_of place (results_of held) None
+
+-- a key that a look-up found is the greatest that it could
+abbrev pub IsGreatestKnown : (Bytes → Bytes) → Place → Option Record → Known → Type 0
+IsGreatestKnown digest_of place held (Found text_key) = NoneAbove digest_of place (results_of held) text_key
+IsGreatestKnown digest_of place held (Missed entry) = Unit {0}
 
 -- these results are those of before with one more: in its place, or alone where the record starts over
 pub record Gains (before : List CachedResult) (own : CachedResult) (after : List CachedResult) : Type 0 where

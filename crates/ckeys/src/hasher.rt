@@ -9,7 +9,7 @@ ghost use Rattle.base_files.specs.Views.{FilesFail};
 ghost use Rattle.ckeys.specs.Calls.{early_fault_of, key_fault_of, PrintedCall, needs_preprocessing, printed_call, record_by, record_of, text_fault_by, text_fault_of, text_of};
 ghost use Rattle.ckeys_records.specs.Faults.{FileCause, KeyCause};
 ghost use Rattle.ckeys.specs.Entries.{EntryInvariant, EntryPremises, IsFramed, asking, entry_key_of, has_entry_key};
-ghost use Rattle.ckeys.specs.EntryTurns.{EntryTurn, IsKnown, Keeps, KeyFine, KeyFrom, KeyRecorded, KeyRuns, PutsNone, RunsUntilKey, TextFine};
+ghost use Rattle.ckeys.specs.EntryTurns.{EntryTurn, IsGreatestFrom, IsGreatestKnown, IsKnown, Keeps, KeyFine, KeyFrom, KeyRecorded, KeyRuns, PutsNone, RunsUntilKey, TextFine};
 ghost use Rattle.ckeys.specs.Surroundings.{recorded_of};
 ghost use Rattle.ckeys_records.specs.Keys.{key_of, record_shape};
 ghost use Rattle.ckeys.specs.Hashers.{AreExtra, call_by, handed_by, looked_at};
@@ -37,7 +37,8 @@ use cmdlines_tables::language::Language;
 use std::alloc::{AllocError, Global};
 
 /// What a request asks for, and of which compiler.
-#[derive(Drop)]
+#[derive(Debug, Drop, PartialEq, Eq)]
+#[derive_where(Clone)]
 pub struct CCompilerHasher<'a, I> {
     pub compiler: &'a I,
     pub executable: &'a OsBytes,
@@ -255,6 +256,10 @@ impl<'a, I: CCompilerImpl + Drop> CCompilerHasher<'a, I> {
             (call_by I.kind_of I.traits self.now place.now (F.tree files.old)) in
             IfOk result
             (λ made. KeyFrom H.digest_of p (E.shelf entries.old).held made.2 (string_bytes made.0)) }
+        ensures greatest { let p = printed_call (T.meaning tool.old)
+            (call_by I.kind_of I.traits self.now place.now (F.tree files.old)) in
+            IfOk result (λ made. IsGreatestFrom H.digest_of p (E.shelf entries.old).held made.2
+            (string_bytes made.0)) }
         ensures shape { let call = call_by I.kind_of I.traits self.now place.now (F.tree files.old)
             in
             IfOk result
@@ -329,6 +334,11 @@ impl<'a, I: CCompilerImpl + Drop> CCompilerHasher<'a, I> {
             (call_by I.kind_of I.traits self.now place.now (F.tree files.old)) in
             IfOk result
             (λ made. KeyFrom H.digest_of p (E.shelf entries.old).held made.2 (string_bytes made.0)) }
+        // From a record it is that of the greatest matching result.
+        ensures greatest { let p = printed_call (T.meaning tool.old)
+            (call_by I.kind_of I.traits self.now place.now (F.tree files.old)) in
+            IfOk result (λ made. IsGreatestFrom H.digest_of p (E.shelf entries.old).held made.2
+            (string_bytes made.0)) }
         ensures shape { let call = call_by I.kind_of I.traits self.now place.now (F.tree files.old)
             in
             IfOk result
@@ -408,6 +418,10 @@ impl<'a, I: CCompilerImpl + Drop> CCompilerHasher<'a, I> {
             (call_by I.kind_of I.traits self.now place.now (F.tree files.old)) in
             IfOk result
             (λ made. KeyFrom H.digest_of p (E.shelf entries.old).held made.2 (string_bytes made.0)) }
+        ensures greatest { let p = printed_call (T.meaning tool.old)
+            (call_by I.kind_of I.traits self.now place.now (F.tree files.old)) in
+            IfOk result (λ made. IsGreatestFrom H.digest_of p (E.shelf entries.old).held made.2
+            (string_bytes made.0)) }
         ensures shape { let call = call_by I.kind_of I.traits self.now place.now (F.tree files.old)
             in
             IfOk result
@@ -472,6 +486,9 @@ fn look_up<H: HashState, E: Store<EntryKey, PreprocessorCacheEntry>, F: Files>(
         ((E.shelf entries.new).held key.now) }
     ensures found { IfOk result
         (IsKnown H.digest_of (looked_at place.now (F.tree files.old))
+        ((E.shelf entries.new).held key.now)) }
+    ensures greatest { IfOk result
+        (IsGreatestKnown H.digest_of (looked_at place.now (F.tree files.old))
         ((E.shelf entries.new).held key.now)) }
     ensures unput { PutsNone (E.shelf entries.old) (E.shelf entries.new) }
     ensures cause { IfErr result

@@ -23,10 +23,11 @@ pub use ckeys_base::{
 };
 pub use ckeys_include_records::entry_key::EntryKey;
 pub use ckeys_include_records::{
-    IncludeEntry, KeyText, PreprocessorCacheEntry, preprocessor_cache_entry_hash_key,
+    Asker, CachedResult, IncludeEntry, KeyText, PreprocessorCacheEntry, SeenInput,
+    preprocessor_cache_entry_hash_key,
 };
 pub use ckeys_marker_walk::walk::walk;
-pub use ckeys_marker_walk::{Markers, Walk};
+pub use ckeys_marker_walk::{Mark, Markers, Walk};
 pub use ckeys_records::shape::CShape;
 pub use ckeys_records::{
     CACHE_VERSION, ConfigError, Fault, HashKeyParams, KeyConfig, Preprocessor, Printed, Step,

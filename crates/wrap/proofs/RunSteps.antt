@@ -34,16 +34,17 @@ use Rattle.wrap_keys.specs.Asking.{EntriesBy, EntriesTurn, IsOfCall, IsOfOneCall
 use Rattle.wrap_keys.specs.Sizes.{is_within, size_in, size_of}
 use Rattle.wrap_keys.specs.StoreKeys.{store_key_of, IsHashedDirect, IsHashedIn, Premises, Invariant}
 use Rattle.wrap_keys.specs.Turn.{StoreTurn}
-use Rattle.base_files.specs.Views.{FilesView}
-use Rattle.ckeys_records.specs.Views.{ToolView}
-use Rattle.wrap_keys.specs.Whole.{Ticks, CallTurn, BothRun, SessionRun, Served, Loses, Run, accounts_of, AllAnswer, IsFresh, IsFreshWithin, HaveOneRecord, OneFresh, TellsDependencies, outputs_in, Agree, SameOutputs, served, Each, begin_of, end_of, served_at, accounts_at}
+use Rattle.base_files.specs.Views.{FilesFail, FilesView}
+use Rattle.ckeys_records.specs.Views.{ToolFails, ToolView}
+use Rattle.wrap_keys.specs.Whole.{Ticks, CallTurn, BothRun, SessionRun, Served, Loses, Run, accounts_of, AllAnswer, IsFresh, IsFreshWithin, HaveOneRecord, OneFresh, TellsDependencies, outputs_in, Agree, SameOutputs, served, Each, IsAnswered, SaysOwn, begin_of, end_of, served_at, accounts_at}
 use Rattle.wrap_base.specs.declared.answer.Answer.{Answer}
 use Rattle.wrap_base.specs.declared.answer.Answer.TheVariants.{Pass, Outputs}
 use Rattle.wrap_base.specs.declared.answer.How.TheVariants.{Direct, Stored, Fresh}
 use Rattle.wrap_base.specs.declared.call.Call.{Call}
 use Rattle.wrap_base.specs.declared.store_key.StoreKey.{StoreKey}
 use Rattle.wrap_keys.proofs.SizeLemmas.{size_placed}
-use Rattle.wrap.proofs.CallSteps.{Tells, invariant_step, answers_step, one_key}
+use Rattle.wrap.specs.Serving.{KeepsHistories, RecordsAreOf}
+use Rattle.wrap.proofs.CallSteps.{Tells, invariant_step, answers_step, one_key, says_own}
 
 loses_nothing : {K V : Type 0} (s : Shelf K V) → Loses s s
 loses_nothing s = record { within = λ q v h. h; kept = λ h. (h, λ q i. i) }
@@ -540,3 +541,50 @@ direct_runs_agree digest_of max_kept other tells agree stay settings one two one
     (empty_run digest_of max_kept agree stay settings one_old one_new one r a assumed)
     (empty_run digest_of other agree stay settings two_old two_new two q b (subst (λ (l : List Account). EntryPremises digest_of (direct_calls l)) same assumed))
     e f same p
+
+module _ (digest_of : Bytes → Bytes) (max_kept : Option ℕ) where
+  -- the invariant of the outputs after a run
+  run_invariant : (earlier : List Account) (old new : Shelf StoreKey Pairs) (run : List Served) → Run digest_of max_kept old run new → Invariant digest_of earlier old.held → Invariant digest_of (earlier ++ accounts_of run) new.held
+  run_invariant earlier old new [] r inv = subst (λ (calls : List Account). Invariant digest_of calls new.held) (sym (append-nil earlier)) (loses_invariant digest_of earlier old new r inv)
+  run_invariant earlier old new (s ∷ run) r inv =
+      let begins = loses_invariant digest_of earlier old r.0 r.2 inv in
+      let after = invariant_step digest_of max_kept s.account r.0 r.1 s.before.compiled s.after.compiled s.result r.3.store r.3.fine earlier begins in
+      subst (λ (calls : List Account). Invariant digest_of calls new.held) (append_assoc earlier (s.account ∷ []) (accounts_of run)) (run_invariant (earlier ++ s.account ∷ []) r.1 new run r.4 after)
+
+  -- and that of the records
+  run_records : Stay_on digest_of → (settings : Settings) (earlier : List Account) (old new : Shelves) (run : List Served) → SessionRun digest_of max_kept settings old run new → EntryInvariant digest_of settings (direct_calls earlier) old.entries.held → EntryInvariant digest_of settings (direct_calls (earlier ++ accounts_of run)) new.entries.held
+  run_records stay settings earlier old new [] r inv = subst (λ (calls : List Account). EntryInvariant digest_of settings (direct_calls calls) new.entries.held) (sym (append-nil earlier)) (subst (λ (end : Shelves). EntryInvariant digest_of settings (direct_calls earlier) end.entries.held) (sym r) inv)
+  run_records stay settings earlier old new (s ∷ run) r inv =
+      let after = records_step digest_of stay settings earlier s.account old.entries r.0.entries s.before.preprocessed s.after.preprocessed r.1.configured r.1.entries inv in
+      subst (λ (calls : List Account). EntryInvariant digest_of settings (direct_calls calls) new.entries.held) (append_assoc earlier (s.account ∷ []) (accounts_of run)) (run_records stay settings (earlier ++ s.account ∷ []) r.0 new run r.2 after)
+
+  module _ (tells : Tells digest_of) (agree : Agree_on digest_of) (stay : Stay_on digest_of) {F T : Type 0} (settings : Settings) (files : FilesView F) (tool : ToolView T) (shelves shelves_new : Shelves) (old new : List (Call F T)) (results : List (Result Answer Fault)) (len : length results ≡ length old) (same : length new ≡ length old) (run : SessionRun digest_of max_kept settings shelves (served_at settings files tool old new results) shelves_new) where
+    -- after whatever calls were served before, it is a run over the store of outputs alone
+    later_run : (earlier : List Account) → RecordsAreOf digest_of settings earlier (accounts_of (served_at settings files tool old new results)) shelves.entries → Run digest_of max_kept shelves.objects (served_at settings files tool old new results) shelves_new.objects
+    later_run earlier assumed = by settings.direct refl
+      where
+        calls : BothRun digest_of max_kept settings shelves (served_at settings files tool old new results) shelves_new
+        calls = both_run digest_of max_kept settings shelves shelves_new (served_at settings files tool old new results) run
+
+        by : (b : Bool) → settings.direct ≡ b → Run digest_of max_kept shelves.objects (served_at settings files tool old new results) shelves_new.objects
+        by true on = let both = assumed on in true_run digest_of max_kept agree stay settings earlier shelves shelves_new (served_at settings files tool old new results) calls both.0 both.1
+        by false off = plain_run digest_of max_kept settings shelves shelves_new (served_at settings files tool old new results) calls (none_served settings files tool off old (map (end_of settings files tool) new) results)
+
+    -- the stores hold what is of those calls and of these, and the outputs of these are fresh ones
+    pub keeps_histories : KeepsHistories digest_of settings (accounts_at settings files tool old) (served_at settings files tool old new results) shelves shelves_new
+    keeps_histories = subst (λ (calls : List Account). KeepsHistories digest_of settings calls (served_at settings files tool old new results) shelves shelves_new) (served_accounts settings files tool old new results len same) (record {
+      records = λ earlier inv. run_records stay settings earlier shelves shelves_new (served_at settings files tool old new results) run inv;
+      invariant = λ earlier assumed inv. run_invariant earlier shelves.objects shelves_new.objects (served_at settings files tool old new results) (later_run earlier assumed) inv;
+      outputs = λ earlier assumed inv premises. run_answers digest_of max_kept tells earlier shelves.objects shelves_new.objects (served_at settings files tool old new results) (later_run earlier assumed) inv premises;
+    })
+
+-- what each call of a run is said to be, and that it goes on, together
+pub each_says : {F T : Type 0} (digest_of : Bytes → Bytes) (max_kept : Option ℕ) (settings : Settings) (files : FilesView F) (tool : ToolView T) (old new : List (Call F T)) (results : List (Result Answer Fault)) (shelf shelf_new : Shelf StoreKey Pairs)
+    → Each (IsAnswered settings files tool) old new results → Run digest_of max_kept shelf (served_at settings files tool old new results) shelf_new → Each (SaysOwn settings files tool) old new results
+each_says digest_of max_kept settings files tool [] new results shelf shelf_new said run = tt
+each_says digest_of max_kept settings files tool (b ∷ old) [] results shelf shelf_new said run = tt
+each_says digest_of max_kept settings files tool (b ∷ old) (e ∷ new) [] shelf shelf_new said run = tt
+each_says digest_of max_kept settings files tool (b ∷ old) (e ∷ new) (r ∷ results) shelf shelf_new said run = (
+    says_own (account_at (tool.meaning b.tool) (files.tree b.files) settings b.request) (FilesFail files b.files e.files) (ToolFails tool b.tool e.tool) r said.0.says run.3.fine run.3.compiled,
+    each_says digest_of max_kept settings files tool old new results run.1 shelf_new said.1 run.4,
+  )

@@ -1,5 +1,5 @@
 -- Calls to rustc, which ask for no include records.
-use Rattle.std.proofs.Common.{◌≡◌, None, true, false, if◌then◌else◌, sym, ap, ◌∙◌}
+use Rattle.std.proofs.Common.{◌≡◌, None, true, false, sym, ap, ◌∙◌}
 use Rattle.base_files.specs.Bytes.{Bytes}
 use Rattle.base_files.specs.Tree.{Tree}
 use Rattle.ckeys_records.specs.Meaning.{Meaning, names_of, scene_of}
@@ -9,7 +9,6 @@ use Rattle.rustc_options.specs.Asks.{RustAsks}
 use Rattle.wrap_keys.specs.Account.{rust_call_at, rust_work_at}
 use Rattle.wrap.specs.Prepared.{IsPrepared}
 use Rattle.wrap.specs.RustPrepared.{IsRustPrepared, rust_command_of}
-use Rattle.wrap_keys.specs.RustVerdicts.{asks, decided_on, is_text, not_text, rust_verdict_of}
 use Rattle.wrap_keys.specs.StoreKeys.{store_key_of, store_key_with}
 use Rattle.wrap.specs.declared.prepared.Prepared.{Prepared}
 use Rattle.wrap.specs.declared.rust_calls.RustPrepared.{RustPrepared}
@@ -37,7 +36,3 @@ is_prepared digest_of meaning later tree tree_later rust request asked made p h 
       direct = λ e. let no : true ≡ false = sym e ∙ from in cc;
       dep_info = dep_info ∙ h.dep_info;
     }
-
--- what asks for something is text
-pub asks_text : (request : Request) (tree : Tree) (asked : RustAsks) → is_text request ≡ false → asks asked ≡ rust_verdict_of request tree → ⊥
-asks_text request tree asked no_text decided = let passed = decided ∙ ap (λ b. if b then decided_on request tree else not_text) no_text in cc

@@ -23,11 +23,6 @@ use Rattle.wrap_base.specs.declared.answer.Answer.TheVariants.{Outputs, Pass}
 use Rattle.wrap_base.specs.declared.request.Request.{Request}
 use Rattle.wrap_base.specs.declared.store_key.StoreKey.{StoreKey}
 
--- what isn't text
-pub no_text : (b : Bool) → not b ≡ true → b ≡ false
-no_text true h = cc
-no_text false h = refl
-
 module _ (digest_of : Bytes → Bytes) (meaning : Meaning) (tree : Tree) (rust : Rustc) (request : Request) where
   abbrev account : RustJudgement → Account
   account d = rust_account_by meaning tree rust request d

@@ -13,7 +13,7 @@ use Rattle.wrap_keys.specs.Account.{Account, account_at, direct_calls}
 use Rattle.wrap_keys.specs.Answers.{Answers}
 use Rattle.wrap_keys.specs.Asking.{RecordsAreTrue, Shelves}
 use Rattle.wrap_keys.specs.StoreKeys.{Invariant, Premises}
-use Rattle.wrap_keys.specs.Whole.{CallTurn, accounts_at, end_of}
+use Rattle.wrap_keys.specs.Whole.{AllAnswer, CallTurn, Served, accounts_at, end_of}
 use Rattle.wrap_base.specs.declared.answer.Answer.{Answer}
 use Rattle.wrap_base.specs.declared.call.Call.{Call}
 use Rattle.wrap_base.specs.declared.request.Request.{Request}
@@ -45,3 +45,16 @@ pub record KeepsHistory (digest_of : Bytes → Bytes) (settings : Settings) (a :
   pub invariant : RecordsAreTrue digest_of a old.entries.held → (earlier : List Account) → Invariant digest_of earlier old.objects.held → Invariant digest_of (earlier ++ a ∷ []) new.objects.held
   -- and outputs are those that the compiler gives afresh
   pub outputs : RecordsAreTrue digest_of a old.entries.held → (earlier : List Account) → Invariant digest_of earlier old.objects.held → Premises digest_of (earlier ++ a ∷ []) → Answers a result
+
+-- where records are kept they are those of earlier calls; and digests are distinct and texts are printed again, over those calls and these
+abbrev pub RecordsAreOf : (Bytes → Bytes) → Settings → List Account → List Account → Shelf EntryKey Record → Type 0
+RecordsAreOf digest_of settings earlier calls entries = settings.direct ≡ true → EntryInvariant digest_of settings (direct_calls earlier) entries.held × EntryPremises digest_of (direct_calls (earlier ++ calls))
+
+-- Whatever calls were served before: the stores hold what is of those and of these, and the outputs of these are fresh ones.
+pub record KeepsHistories (digest_of : Bytes → Bytes) (settings : Settings) (calls : List Account) (run : List Served) (old new : Shelves) : Type 0 where
+  -- calls that meet the invariant of the records do so with these after them
+  pub records : (earlier : List Account) → EntryInvariant digest_of settings (direct_calls earlier) old.entries.held → EntryInvariant digest_of settings (direct_calls (earlier ++ calls)) new.entries.held
+  -- calls that meet the invariant of the outputs do so with these after them
+  pub invariant : (earlier : List Account) → RecordsAreOf digest_of settings earlier calls old.entries → Invariant digest_of earlier old.objects.held → Invariant digest_of (earlier ++ calls) new.objects.held
+  -- and outputs are those that the compilers give afresh
+  pub outputs : (earlier : List Account) → RecordsAreOf digest_of settings earlier calls old.entries → Invariant digest_of earlier old.objects.held → Premises digest_of (earlier ++ calls) → AllAnswer run

@@ -13,8 +13,8 @@ ghost use Rattle.wrap_base.specs.Commands.{named_by};
 ghost use Rattle.wrap_keys.specs.RustVerdicts.{is_rust_no_text};
 ghost use Rattle.wrap_keys.specs.StoreKeys.{Premises};
 ghost use Rattle.wrap_fingerprints.specs.Telling.{OnReason, Tells};
-ghost use Rattle.wrap_keys.specs.Whole.{AllAnswer, Each, IsAnswered, OneFresh, Run, SessionRun, accounts_at, served_at};
-ghost use Rattle.wrap.specs.Serving.{BeginTrue, IsTurn, KeepsHistory, account_of, call_of};
+ghost use Rattle.wrap_keys.specs.Whole.{AllAnswer, Each, IsAnswered, OneFresh, Run, SaysOwn, SessionRun, accounts_at, served_at};
+ghost use Rattle.wrap.specs.Serving.{BeginTrue, IsTurn, KeepsHistories, KeepsHistory, account_of, call_of};
 ghost use Rattle.wrap.specs.Sessions.{held_by};
 
 use crate::c_calls::c_turn;
@@ -120,6 +120,9 @@ impl<
         ensures quiet { OnReason result
             ((T.preprocessed tool.new ≡ T.preprocessed tool.old)
             × (T.failed tool.new ≡ T.failed tool.old)) }
+        // A request to rustc that isn't UTF-8 touches no file.
+        ensures no_text { is_rust_no_text (named_by request.now.compiler) request.now ≡ true
+            → files.new ≡ files.old }
         // The text is printed once where there is one to print, and rustc asked twice; before a fault as far as the call came.
         ensures runs { let a = account_at (T.meaning tool.old) (F.tree files.old) self.now.settings
             request.now in
@@ -140,8 +143,8 @@ impl<
         files: &mut F,
         tool: &mut T,
     ) -> Result<Answer, Fault>
-        // It is passed through exactly where the verdict says, unless memory was refused first; a fault has its cause; and what
-        // the files hold and what the compiler means are as they were.
+        // It is passed through exactly where the verdict says, unless memory was refused first; a fault has its cause; a request to
+        // rustc that isn't UTF-8 touches no file; and what the files hold and what the compiler means are as they were.
         ensures answered { IsAnswered self.old.settings F.Files T.Preprocessor
             (call_of request.now files.old tool.old)
             (call_of request.now files.new tool.new) result }
@@ -167,9 +170,6 @@ impl<
             (shelves_of (E.shelf self.old.entries) (O.shelf self.old.objects))
             (shelves_of (E.shelf self.new.entries) (O.shelf self.new.objects)) result }
 
-        // A request to rustc that isn't UTF-8 touches no file.
-        ensures no_text { is_rust_no_text (named_by request.now.compiler) request.now ≡ true
-            → files.new ≡ files.old }
         ensures settings { (self.new.settings ≡ self.old.settings)
             × (self.new.max_kept ≡ self.old.max_kept) }
     {
@@ -205,6 +205,20 @@ impl<
         ensures says { IfOk result
             (λ answers. Each (IsAnswered self.old.settings F.Files T.Preprocessor)
             calls.old calls.new answers.items) }
+
+        // Then outputs and faults of a compile mean that the call has no fault before the store is asked.
+        ensures goes_on { BeginTrue self.old.settings F.Files T.Preprocessor H.digest_of
+            (E.shelf self.old.entries) calls.old
+            → IfOk result (λ answers. Each (SaysOwn self.old.settings F.Files T.Preprocessor)
+            calls.old calls.new answers.items) }
+
+        // Whatever calls were served before, the stores hold what is of those and of these, and the outputs of these are fresh ones.
+        ensures history { let served = served_at self.old.settings F.Files T.Preprocessor
+            calls.old calls.new in
+            IfOk result (λ answers. KeepsHistories H.digest_of self.old.settings
+            (accounts_at self.old.settings F.Files T.Preprocessor calls.old) (served answers.items)
+            (shelves_of (E.shelf self.old.entries) (O.shelf self.old.objects))
+            (shelves_of (E.shelf self.new.entries) (O.shelf self.new.objects))) }
 
         // From empty stores all outputs are those that the compilers give afresh on each call's files.
         ensures outputs { let served = served_at self.old.settings F.Files T.Preprocessor

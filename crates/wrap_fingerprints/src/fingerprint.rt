@@ -13,10 +13,10 @@ ghost use Rattle.ckeys_records.specs.Views.{ToolFails};
 ghost use Rattle.ckeys_records.specs.Untouched.{Untouched};
 ghost use Rattle.rustc_options.specs.Asks.{asks_in};
 ghost use Rattle.rustkeys.specs.Runs.{AtMostTwice};
-ghost use Rattle.wrap_base.specs.Commands.{by_c, digest_of, found_of, traits_of};
+ghost use Rattle.wrap_base.specs.Commands.{by_c, digest_of, found_of, named_by, traits_of};
 ghost use Rattle.wrap_keys.specs.Account.{account_at, account_named, call_at, rust_account_by, rust_call_at, rust_work_at, work_at};
 ghost use Rattle.wrap_keys.specs.Asking.{RunsOf, StopsEarly};
-ghost use Rattle.wrap_keys.specs.RustVerdicts.{rust_verdict_of};
+ghost use Rattle.wrap_keys.specs.RustVerdicts.{is_rust_no_text, is_text, rust_verdict_of};
 ghost use Rattle.wrap_keys.specs.Verdicts.{hashed_words};
 ghost use Rattle.wrap_fingerprints.specs.Fingerprints.{IsFingerprintOf};
 ghost use Rattle.wrap_fingerprints.specs.declared.fingerprint.Fingerprint.TheVariants.{Rustc};
@@ -241,6 +241,7 @@ fn of_rustc<H: HashState, F: Files, T: Tool>(
     ensures runs { let a = rust_account_by (T.meaning tool.old) (F.tree files.old) rust.now
         request.now (rust_verdict_of request.now (F.tree files.old)) in
         RunsOf a false result (T.preprocessed tool.old) (T.preprocessed tool.new) }
+    ensures no_text { is_text request.now ≡ false → files.new ≡ files.old }
     ensures compiles { T.compiled tool.new ≡ T.compiled tool.old }
     ensures untouched { Untouched T.Preprocessor F.Files
         tool.old files.old tool.new files.new result }
@@ -276,6 +277,9 @@ pub fn request_fingerprint<H: HashState, F: Files, T: Tool>(
     ensures quiet { OnReason result
         ((T.preprocessed tool.new ≡ T.preprocessed tool.old)
         × (T.failed tool.new ≡ T.failed tool.old)) }
+    // A request to rustc that isn't UTF-8 touches no file.
+    ensures no_text { is_rust_no_text (named_by request.now.compiler) request.now ≡ true
+        → files.new ≡ files.old }
     // The text is printed once where there is one to print, and rustc asked twice; before a fault as far as the call came.
     ensures runs { let a = account_at (T.meaning tool.old) (F.tree files.old) config.now
         request.now in

@@ -4,14 +4,15 @@ use Rattle.std.specs.List.{AllByRecursion}
 use Rattle.base_files.specs.Bytes.{Bytes, ticked}
 use Rattle.base_files.specs.Views.{FilesFail, FilesView}
 use Rattle.ckeys_base.specs.Shelf.{Shelf, Within, KeepsKeys}
-use Rattle.ckeys_records.specs.Causes.{HasOwnFault}
+use Rattle.ckeys_records.specs.Causes.{ByStage, HasOwnFault, stage_of}
 use Rattle.ckeys_records.specs.Folders.{Settings}
 use Rattle.ckeys_records.specs.Untouched.{Untouched}
 use Rattle.ckeys_records.specs.Views.{ToolFails, ToolView}
 use Rattle.ckeys_records.specs.declared.fault.Fault.{Fault}
 use Rattle.ckeys_records.specs.declared.fault.Fault.TheVariants.{Memory}
+use Rattle.wrap_keys.specs.RustVerdicts.{is_rust_no_text}
 use Rattle.wrap_keys.specs.Verdicts.{Why}
-use Rattle.wrap_keys.specs.Account.{Account, passed, worked, Pairs, account_at, why_passed}
+use Rattle.wrap_keys.specs.Account.{Account, Work, passed, worked, Pairs, account_at, why_passed}
 use Rattle.wrap_keys.specs.Answers.{Answers, EarlyCause, GoesOn, OnPass, Says, SaysBy, SaysPassed, settled, settled_by}
 use Rattle.wrap_keys.specs.Asking.{AskedTurn, EntriesTurn, IsOfOneCall, OnOutputs, RecordsAreTrue, Shelves}
 use Rattle.wrap_keys.specs.Early.{IsAskedEarly, OfPassed}
@@ -44,12 +45,19 @@ TellsDependencies (worked w) (Ok (Pass reason)) = Unit {0}
 TellsDependencies (worked w) (Ok (Outputs map how dep_info)) = dep_info ≡ w.dep_info
 TellsDependencies (worked w) (Err fault) = Unit {0}
 
--- One call, by plain values: what it does to the store and what its answer reports; what the verdict passes through is passed through, unless there was out of memory or an I/O error on a file before, and then no tick of the tool moves; outputs are answered only where the call has a record, beside its own text on dependencies; and without out of memory and I/O errors, what is said before the compile is the account's alone.
+-- a fact of a call where its answer is a fault of the compile
+abbrev pub OnCompileFault : Account → Result Answer Fault → (Work → Type 0) → Type 0
+OnCompileFault (passed why) result P = Unit {0}
+OnCompileFault (worked w) (Ok answer) P = Unit {0}
+OnCompileFault (worked w) (Err fault) P = ByStage (stage_of fault) (Unit {0}) (Unit {0}) (P w)
+
+-- One call, by plain values: what it does to the store and what its answer reports; what the verdict passes through is passed through, unless there was out of memory or an I/O error on a file before, and then no tick of the tool moves; outputs and faults of the compile are answered only where the call has a record, and outputs beside its own text on dependencies; and without out of memory and I/O errors, what is said before the compile is the account's alone.
 pub record Turn (digest_of : Bytes → Bytes) (max_kept : Option ℕ) (a : Account) (old new : Shelf StoreKey Pairs) (before after : Ticks) (result : Result Answer Fault) : Type 0 where
   pub store : StoreTurn digest_of max_kept a old new before.compiled after.compiled result
   pub passes : (why : Why) → why_passed a ≡ Some why → SaysPassed why (λ name. after.files_failed ≡ ticked before.files_failed) result
   pub quiet : OnPass result ((after.preprocessed ≡ before.preprocessed) × (after.compiled ≡ before.compiled) × (after.failed ≡ before.failed))
   pub fine : OnOutputs a result HasRecord
+  pub compiled : OnCompileFault a result HasRecord
   pub dep_info : TellsDependencies a result
   pub exact : (IsErrOf result Memory → ⊥) → after.files_failed ≡ before.files_failed → after.failed ≡ before.failed → settled_by result ≡ settled a
 
@@ -176,10 +184,16 @@ Each P (b ∷ begins) [] results = Unit {0}
 Each P (b ∷ begins) (e ∷ ends) [] = Unit {0}
 Each P (b ∷ begins) (e ∷ ends) (r ∷ results) = P b e r × Each P begins ends results
 
--- A call is answered: its answer says what it may, a fault only with its cause, and outputs, where no records are kept, only where the call has no fault before; a fault of one that is passed through names no file but those that its words ask for; no failure tick has moved, unless the fault is an I/O error; and its request, the tree of its files and its tool's meaning are as they were.
+-- A call is answered: its answer says what it may, a fault only with its cause, and outputs, where no records are kept, only where the call has no fault before; a fault of one that is passed through names no file but those that its words ask for; a request to rustc that isn't UTF-8 touches no file; no failure tick has moved, unless the fault is an I/O error; and its request, the tree of its files and its tool's meaning are as they were.
 pub record IsAnswered {F T : Type 0} (settings : Settings) (files : FilesView F) (tool : ToolView T) (begin end : Call F T) (result : Result Answer Fault) : Type 0 where
   pub says : SaysBy GoesOn (account_at (tool.meaning begin.tool) (files.tree begin.files) settings begin.request) (FilesFail files begin.files end.files) (ToolFails tool begin.tool end.tool) result
   pub plain : settings.direct ≡ false → Says (account_at (tool.meaning begin.tool) (files.tree begin.files) settings begin.request) (FilesFail files begin.files end.files) (ToolFails tool begin.tool end.tool) result
   pub passed : IfErr result (λ fault. OfPassed (account_at (tool.meaning begin.tool) (files.tree begin.files) settings begin.request) (EarlyCause (IsAskedEarly (named_by begin.request.compiler) begin.request (files.tree begin.files)) fault))
+  pub no_text : is_rust_no_text (named_by begin.request.compiler) begin.request ≡ true → end.files ≡ begin.files
   pub untouched : Untouched tool files begin.tool begin.files end.tool end.files result
   pub request : end.request ≡ begin.request
+
+-- of calls on such files, by such tools: what an answer says of a call whose records are true
+module _ {F T : Type 0} (settings : Settings) (files : FilesView F) (tool : ToolView T) where
+  abbrev pub SaysOwn : Call F T → Call F T → Result Answer Fault → Type 0
+  SaysOwn begin end result = Says (account_at (tool.meaning begin.tool) (files.tree begin.files) settings begin.request) (FilesFail files begin.files end.files) (ToolFails tool begin.tool end.tool) result

@@ -4,7 +4,7 @@ ghost use Rattle.std.specs.Prelude.{◌≡◌, ◌⊎◌, IfOk, IsErrOf};
 ghost use Rattle.wrap.specs.Bytes.{ticked};
 ghost use Rattle.wrap.specs.Meaning.{made_of, names_of, scene_of};
 ghost use Rattle.wrap_base.specs.AskedBy.{asked_by};
-ghost use Rattle.wrap_uses.specs.Caps.{TakesOne};
+ghost use Rattle.wrap_uses.specs.Caps.{IsSpent, TakesOne};
 
 use std::alloc::Global;
 use wrap::{
@@ -52,7 +52,7 @@ impl<T: Tool> Preprocessor for CappedTool<T> {
 
     ghost failed = { λ s. s.failed };
 
-    ghost fails_in = { λ old step new. T.fails_in old.inner step new.inner ⊎ (old.left ≡ 0) };
+    ghost fails_in = { λ old step new. T.fails_in old.inner step new.inner ⊎ IsSpent step old.left };
 
     fn preprocess<F: Files>(
         &mut self,

@@ -13,7 +13,7 @@ use Rattle.wrap_keys.specs.RustVerdicts.{RustJudgement, asks, rust_verdict_of}
 use Rattle.wrap_keys.specs.Turn.{StoreTurn, own_text_key}
 use Rattle.wrap_keys.proofs.KeyLemmas.{fails_on_later}
 use Rattle.wrap_keys.proofs.RunLemmas.{early_ran}
-use Rattle.wrap.proofs.RustLemmas.{asks_text}
+use Rattle.wrap_keys.proofs.RustTexts.{asks_text}
 use Rattle.wrap.proofs.TurnLemmas.{early_says, early_turn, how_of_fault, says_later, unpassed}
 use Rattle.wrap.proofs.PassedLemmas.{early_passed, not_passed}
 use Rattle.wrap.proofs.rust_calls.rust_turn.Goals as goal

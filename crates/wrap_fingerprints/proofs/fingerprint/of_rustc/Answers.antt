@@ -10,6 +10,7 @@ use Rattle.wrap_keys.specs.Asking.{RunsOf, StopsEarly}
 use Rattle.wrap_keys.specs.RustVerdicts.{RustJudgement, asks, rust_verdict_of}
 use Rattle.wrap_keys.proofs.KeyLemmas.{fails_on_later}
 use Rattle.wrap_keys.proofs.RunLemmas.{asked_until, early_ran}
+use Rattle.wrap_keys.proofs.RustTexts.{asks_text}
 use Rattle.wrap_fingerprints.specs.Telling.{Tells, Told}
 use Rattle.wrap_fingerprints.proofs.TellLemmas.{early_tells, fault_tells, key_later}
 use Rattle.wrap_fingerprints.proofs.fingerprint.of_rustc.Goals as goal
@@ -67,3 +68,17 @@ returns-in_ok-made-in-Asks-clause-runs g c =
     let work_on : Tree → Work = λ files. rust_work_at (g.T.Preprocessor.meaning c.args.tool.now) (rust_call_at c.args.rust.now request files (asks_in c.in-Asks.parsed)) in
     let early = subst (λ (t : Tree). StopsEarly (work_on t) before after) c.in_ok-reason.ensures.untouched.tree c.rust_fingerprint-made.ensures.early in
     subst (λ (d : RustJudgement). RunsOf (account d) false told before after) decided (c.in_ok-made-in-Asks.ensures.runs, early)
+
+pub returns-in_err-made-in-Asks-clause-no_text : goal.returns-in_err-made-in-Asks-clause-no_text
+returns-in_err-made-in-Asks-clause-no_text g c no_text =
+    let request = c.args.request.now in
+    let tree = g.F.Files.tree c.args.files.now in
+    let decided : asks (asks_in c.in-Asks.parsed) ≡ rust_verdict_of request tree = rw c.in-Asks.is at c.in_ok-reason.ensures.verdict in
+    absurd (asks_text request tree (asks_in c.in-Asks.parsed) no_text decided)
+
+pub returns-in_ok-made-in-Asks-clause-no_text : goal.returns-in_ok-made-in-Asks-clause-no_text
+returns-in_ok-made-in-Asks-clause-no_text g c no_text =
+    let request = c.args.request.now in
+    let tree = g.F.Files.tree c.args.files.now in
+    let decided : asks (asks_in c.in-Asks.parsed) ≡ rust_verdict_of request tree = rw c.in-Asks.is at c.in_ok-reason.ensures.verdict in
+    absurd (asks_text request tree (asks_in c.in-Asks.parsed) no_text decided)

@@ -7,7 +7,7 @@ use Rattle.ckeys_base.specs.Shelf.{Shelf}
 use Rattle.ckeys.specs.Calls.{KeyCall, PrintedCall, printed_call, record_by, text_by, text_fault_by, text_fault_of, text_of}
 use Rattle.ckeys_records.specs.Faults.{KeyCause}
 use Rattle.ckeys.specs.Entries.{HasMatch, good_text, includes_by}
-use Rattle.ckeys.specs.EntryTurns.{EntryTurn, IsKnown, Keeps, KeyRecorded}
+use Rattle.ckeys.specs.EntryTurns.{EntryTurn, IsGreatest, IsGreatestKnown, IsKnown, Keeps, KeyRecorded}
 use Rattle.ckeys.specs.Hashers.{call_by, handed_by, looked_at}
 use Rattle.ckeys_records.specs.Keys.{key_of}
 use Rattle.ckeys_records.specs.Material.{shape_of}
@@ -19,7 +19,7 @@ use Rattle.ckeys_include_records.specs.declared.entry_key.EntryKey.{EntryKey}
 use Rattle.ckeys_include_records.specs.Records.{Record}
 use Rattle.ckeys.proofs.CallLemmas.{cause_is, file_cause}
 use Rattle.ckeys_records.proofs.FaultLemmas.{since, on_exit}
-use Rattle.ckeys.proofs.EntryLemmas.{found_recorded, from_record, good_of, turn_asked, turn_kept, turn_missed}
+use Rattle.ckeys.proofs.EntryLemmas.{found_recorded, from_record, good_of, greatest_recorded, turn_asked, turn_kept, turn_missed}
 use Rattle.ckeys.proofs.RecordLemmas.{has_key}
 use Rattle.ckeys.proofs.hasher.CCompilerHasher.recorded_key.Goals as goal
 
@@ -188,3 +188,16 @@ returns-in_ok-shape-in-Found-clause-recorded g c =
     let known : IsKnown digest (looked_at c.args.place.now (tree c.args.files.now)) (asked.held c.args.entry_key) c.in_ok-key.field-0 = c.in_ok-key.ensures.found in
     let found = subst (IsKnown digest (looked_at c.args.place.now (tree c.args.files.now)) (asked.held c.args.entry_key)) c.in-Found.is known in
     subst (KeyRecorded digest p old asked true) (sym c.into_string.ensures) (found_recorded digest p c.args.entry_key c.requires.entry c.requires.framed old asked c.look_up.ensures.asks c.in-Found.key found)
+
+pub returns-in_ok-shape-in-Found-clause-greatest : goal.returns-in_ok-shape-in-Found-clause-greatest
+returns-in_ok-shape-in-Found-clause-greatest g c =
+    let digest = g.H.HashState.digest_of in
+    let tree = g.F.Files.tree in
+    let call_on : Tree → KeyCall = λ t. call_by g.I.CCompilerImpl.kind_of g.I.CCompilerImpl.traits c.args.self.now c.args.place.now t in
+    let p : PrintedCall = printed_call (g.T.Preprocessor.meaning c.args.tool.now) (call_on (tree c.args.files.now)) in
+    let old = g.E.Store.shelf c.args.entries.now in
+    let asked = g.E.Store.shelf c.look_up.new.entries in
+    let at = looked_at c.args.place.now (tree c.args.files.now) in
+    let found = subst (IsKnown digest at (asked.held c.args.entry_key)) c.in-Found.is c.in_ok-key.ensures.found in
+    let none = subst (IsGreatestKnown digest at (asked.held c.args.entry_key)) c.in-Found.is c.in_ok-key.ensures.greatest in
+    subst (IsGreatest digest p old.held) (sym c.into_string.ensures) (greatest_recorded digest p c.args.entry_key c.requires.entry c.requires.framed old asked c.look_up.ensures.asks c.in-Found.key found none)
