@@ -64,6 +64,48 @@ static int wants_colours(int is_gcc) {
 
 static int has_escape(const char *bytes, size_t size) { return memchr(bytes, ESCAPE, size) != NULL; }
 
+/* The place after line ends that a backslash takes away. */
+static const char *after_splices(const char *at, const char *end) {
+    while (end - at > 1 && at[0] == '\\' && (at[1] == '\n' || at[1] == '\r')) at += at[1] == '\r' && end - at > 2 && at[2] == '\n' ? 3 : 2;
+    return at;
+}
+
+/* Whether the number of an escape is written there: its last digits, after zeros, and perhaps in braces. */
+static int is_escapes_number(const char *at, const char *end, const char *digits) {
+    at = after_splices(at, end);
+    if (at < end && *at == '{') at = after_splices(at + 1, end);
+    while (at < end && *at == '0') at = after_splices(at + 1, end);
+    for (; *digits; digits++, at = after_splices(at + 1, end))
+        if (at >= end || (*at | (*digits & 32)) != *digits) return 0;
+    return 1;
+}
+
+/* Whether a source may spell an escape: \e, \33, \x1b, \u001b, a name in braces, or by a trigraph. */
+static int spells_escape(const char *bytes, size_t size) {
+    const char *end = bytes + size;
+    for (const char *at = bytes; (at = memchr(at, '\\', end - at)); at++) {
+        const char *letter = after_splices(at + 1, end);
+        if (letter >= end) break;
+        at = letter;
+        switch (*letter) {
+        case 'e': case 'E': case 'N': return 1;
+        case '0': case '3':
+            if (is_escapes_number(letter, end, "33")) return 1;
+            break;
+        case 'o':
+            if (is_escapes_number(letter + 1, end, "33")) return 1;
+            break;
+        case 'x': case 'u': case 'U':
+            if (is_escapes_number(letter + 1, end, "1b")) return 1;
+            break;
+        }
+    }
+    return memmem(bytes, size, "\?\?/", 3) != NULL;
+}
+
+/* Whether a source has one in it, or spells one. */
+static int may_write_escape(const char *bytes, size_t size) { return has_escape(bytes, size) || spells_escape(bytes, size); }
+
 /* What a file has in it, or NULL where it is empty or can't be read. */
 static const char *map(int file, size_t *size) {
     struct stat state;
@@ -73,7 +115,7 @@ static const char *map(int file, size_t *size) {
     return bytes == MAP_FAILED ? NULL : bytes;
 }
 
-/* Whether a file that a text names may have an escape in it. No compiler quotes one that isn't there. */
+/* Whether a file that a text names may have an escape in it, or spell one. No compiler quotes one that isn't there. */
 static int source_has_escape(const char *path) {
     struct stat state;
     size_t size;
@@ -82,7 +124,7 @@ static int source_has_escape(const char *path) {
     int file = open(path, O_RDONLY | O_CLOEXEC), has = 1;
     const char *bytes = file < 0 ? NULL : map(file, &size);
     if (bytes) {
-        has = has_escape(bytes, size);
+        has = may_write_escape(bytes, size);
         munmap((void *)bytes, size);
     }
     if (file >= 0) close(file);
@@ -144,7 +186,7 @@ static int sources_have_escapes(const char *text, size_t size) {
 static int may_quote_escapes(void) {
     size_t size;
     for (char **word = words + 1; *word; word++)
-        if (strchr(*word, ESCAPE) || !strcmp(*word, "-fanalyzer")) return 1;
+        if (may_write_escape(*word, strlen(*word)) || !strcmp(*word, "-fanalyzer")) return 1;
     const char *bytes = map(text, &size);
     if (!bytes) return 1;
     int may = has_escape(bytes, size) || sources_have_escapes(bytes, size);

@@ -357,7 +357,7 @@ habits_program() {
     rm -f it.o
     alone/bin/gulmaat gcc -DCOUNT=1 -c it.c -o it.o 2>messages
     is "no program: the compiler runs" [ -f it.o ]
-    is "no program: message" grep -q "^gulmaat: its program isn't at .*/alone/bin/../lib/gulmaat/gulmaat nor, .*: set GULMAAT_BIN" messages
+    is "no program: message" grep -q "^gulmaat: its program isn't at .*/alone/bin/gulmaat, beside this, nor at .*/alone/bin/../lib/gulmaat/gulmaat: set GULMAAT_BIN" messages
     alone/bin/gulmaat -s 2>messages
     is "no program: an option" [ $? = 127 ]
     ln -s gulmaat alone/bin/gcc
@@ -369,6 +369,17 @@ habits_program() {
     mv alone/bin/gulmaat alone/bin/gulmaat-host
     cp "${host%-host}" alone/bin/gulmaat
     prints "the program beside its host" 5G alone/bin/gulmaat-host -k max_size
+    # Only a host in a directory called bin takes a program from lib beside that: whoever may write beside any other directory is a stranger.
+    mkdir -p beside/launcher beside/lib/gulmaat
+    cp "$host" "${host%-host}" beside/launcher
+    printf '#!/bin/sh\ntouch %s\nexit 11\n' "$PWD/stranger" >beside/lib/gulmaat/gulmaat
+    chmod +x beside/lib/gulmaat/gulmaat
+    prints "the program of a host in another directory" 5G beside/launcher/gulmaat-host -k max_size
+    is "a stranger's program isn't run" [ ! -e stranger ]
+    rm beside/launcher/gulmaat
+    beside/launcher/gulmaat-host gcc -DCOUNT=1 -c it.c -o it.o 2>messages
+    is "a stranger's program isn't run where there is no other" [ ! -e stranger ]
+    is "nor is lib named" grep -q "^gulmaat: its program isn't at .*/beside/launcher/gulmaat, beside this: set GULMAAT_BIN" messages
     GULMAAT_BIN=/nowhere "$host" gcc -DCOUNT=1 -c it.c -o it.o 2>messages
     is "GULMAAT_BIN=/nowhere: message" grep -q "^gulmaat: its program isn't at /nowhere: set GULMAAT_BIN to it" messages
     GULMAAT_BIN=$host timeout 10 "$host" gcc -DCOUNT=1 -c it.c -o it.o 2>messages

@@ -266,6 +266,15 @@ host_fails() {
         is "$cc: long messages, $number" cmp <(seq 3000) shown
         is "$cc: long messages, $number: object" [ -s it.o ]
     done
+    # Little room for the host's stack.
+    stand_in_compiler "$cc" <<<'ulimit -S -s 8192; seq 30000 >&2'
+    for number in 1 2 3; do
+        rm -f it.o
+        (ulimit -S -s 128; timeout 60 "$host" "$dir/fake/$cc" -c short.c -o it.o) 2>shown
+        is "$cc: a small stack, $number: status" [ $? = 0 ]
+        is "$cc: a small stack, $number: messages" cmp <(seq 30000) shown
+        is "$cc: a small stack, $number: object" [ -s it.o ]
+    done
     # The cache directory is removed meanwhile.
     stand_in_compiler "$cc" <<<'rm -rf "$GULMAAT_DIR"'
     GULMAAT_DIR=$dir/gone as_alone "$cc: the folder goes" 2 "$dir/fake/$cc" -Wall -c it.c -o it.o
@@ -301,6 +310,15 @@ host_deaths() {
         sleep 0.1
     done
     is "$cc: no host, and no program" [ -n "$program" -a ! -e "/proc/$program" ]
+    # A compiler ends with its host: it would make an object that nobody waits for, over that of another call.
+    stand_in_compiler "$cc" <<<'echo $$ >compiler; kill -9 $PPID; sleep 5; echo late >late'
+    rm -f compiler late
+    { timeout 60 "$host" "$PWD/fake/$cc" -Wall -c it.c -o it.o 2>ours.err; } 2>/dev/null
+    for step in $(seq 20); do
+        [ -s compiler ] && [ -e "/proc/$(cat compiler)" ] || break
+        sleep 0.1
+    done
+    is "$cc: no host, and no compiler" [ -s compiler -a ! -e "/proc/$(cat compiler)" -a ! -e late ]
     # While a compiler runs there is one other process of the host's, and no zombie, also where the compiler took the host's place.
     stand_in_compiler "$cc" <<<'ps -o pid=,stat=,comm= --ppid $PPID >beside; ps -o pid=,stat=,comm= --ppid $$ >below'
     rm -f it.o
@@ -322,6 +340,9 @@ host_deaths() {
     is "$cc: a signal while a text is printed" [ $? = 143 ]
     is "$cc: a signal while a text is printed: it ended" [ ! -e "/proc/$(cat text)" ]
     is "$cc: a signal while a text is printed: no object" [ ! -e it.o ]
+    # A program whose question is too long to be read: it still writes where the host waits for its end.
+    printf 'printf "\\000\\000\\000\\020\\000\\000\\000\\000"; exec head -c 1000000 /dev/zero\n' | stand_in talkative
+    GULMAAT_BIN=$PWD/talkative as_alone "$cc: a question that is too long" 1 "$cc" -Wall -c it.c -o it.o
     # A program that never ends.
     printf 'echo $$ >program; exec sleep 300\n' | stand_in never
     GULMAAT_BIN=$PWD/never timeout 60 "$host" "$cc" -Wall -c it.c -o it.o 2>ours.err &
