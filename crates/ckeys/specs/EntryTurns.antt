@@ -11,7 +11,8 @@ use Rattle.ckeys_include_records.specs.declared.entry.CachedResult.{CachedResult
 use Rattle.ckeys_include_records.specs.declared.entry.IncludeEntry.{IncludeEntry}
 use Rattle.ckeys_include_records.specs.declared.entry_key.EntryKey.{EntryKey}
 use Rattle.ckeys.specs.Calls.{PrintedCall, key_fault_by, record_by, text_fault_by}
-use Rattle.ckeys.specs.Entries.{Held, HasMatch, IsFramed, IsOwnResult, entry_key_of, good_text, has_entry_key, includes_by, place_of}
+use Rattle.ckeys.specs.Entries.{Held, HasMatch, IsFramed, IsOwnResult, entry_key_of, good_text, has_entry_key, includes_by}
+use Rattle.ckeys.specs.Surroundings.{place_of}
 use Rattle.ckeys_records.specs.Causes.{step_of}
 use Rattle.ckeys_records.specs.Meaning.{AtMostOnce}
 use Rattle.ckeys_records.specs.Keys.{key_of}
