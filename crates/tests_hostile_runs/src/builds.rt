@@ -1,146 +1,190 @@
-//! A build of one call: it is answered as the call is in a session.
+//! All calls of a scenario as one list, in a build and in a session: each is answered as in its own turn.
 
-use crate::answers::{AnswerTexts, answer_texts, push_unless};
-use crate::runs::Stop;
+use crate::answers::{answer_texts, push_unless};
+use crate::runs::{Stop, Turn};
 use base_files::{Files, MemoryFiles};
 use ckeys_records::{Fault, KeyConfig};
 use cmdlines::EachKind;
 use sccache_scenarios::{Scenario, ScenarioCall, read_scenario};
-use sccache_script_tool::{ScriptTool, StatusOf, Statuses, error_status, print_status};
+use sccache_script_tool::{
+    CrateTexts, RetoldTool, ScriptTool, StatusOf, Statuses, error_status, print_status,
+};
 use sha2::Sha256;
 use std::alloc::{AllocError, Global};
 use tests_kit::{FailFiles, FailTool};
-use wrap_base::{Answer, Call, Config, Tool};
+use wrap::Session;
+use wrap_base::{Answer, Call, Config, MapStore, Tool};
 use wrap_uses::run_steps;
 
 /// Files and a tool as in the runs. No call of a device fails.
 type Step = Call<FailFiles<MemoryFiles>, FailTool<ScriptTool>>;
 
-/// Whether this answer says what is due.
-fn says(
+/// Adds the words of the answers, and a line where one of them isn't that of its own turn.
+fn push_answered(
     alloc: Global,
-    answer: &Result<Answer, Fault>,
-    due: &AnswerTexts,
-) -> Result<bool, AllocError> {
-    let texts = answer_texts(alloc, answer)?;
-    Ok(texts.agrees(due))
+    name: &str,
+    answers: &[Result<Answer, Fault>],
+    turns: &[Turn],
+    text: &mut String,
+) -> Result<(), AllocError> {
+    let mut same = answers.len() == turns.len();
+    text.push_str(name)?;
+    for (answer, turn) in answers.iter().zip(turns) {
+        let said = answer_texts(alloc, answer)?;
+        let word = said.word;
+        same = same && word == turn.answer.word && said.agrees(&turn.answer);
+        drop(said);
+        write!(text, " {word}")?;
+    }
+    text.push('\n')?;
+    push_unless(same, "each answer is that of its own turn", text)
 }
 
-/// Whether a build of these steps keeps all, and its one answer says what is due. Who calls this loads none of what a build promises.
-fn steps_say<F: Files, T: Tool>(
+/// Adds what a build of these steps is answered. Who calls this loads none of what a build promises.
+fn push_build<F: Files, T: Tool>(
     alloc: Global,
-    config: Config,
+    config: &Config,
     steps: &mut [Call<F, T>],
-    due: &AnswerTexts,
-) -> Result<bool, AllocError> {
-    let build = run_steps::<Sha256, F, T>(alloc, config, steps)?;
-    let says = match build.answers.as_slice() {
-        [answer] => says(alloc, answer, due),
-        _ => Ok(false),
-    };
+    turns: &[Turn],
+    text: &mut String,
+) -> Result<(), AllocError> {
+    let build = run_steps::<Sha256, F, T>(alloc, config.clone()?, steps)?;
+    let pushed = push_answered(alloc, "build:", build.answers.as_slice(), turns, text);
     let kept_all = build.kept_all;
     drop(build);
-    Ok(says? && kept_all)
+    pushed?;
+    push_unless(kept_all, "a build keeps all", text)
 }
 
-/// Likewise of this one step.
-fn step_says(
+/// What a session over empty stores answers these calls. Who calls this loads none of what a session promises.
+fn answers_of<F: Files, T: Tool>(
     alloc: Global,
     config: Config,
-    step: Step,
-    due: &AnswerTexts,
-) -> Result<bool, AllocError> {
-    let mut steps = [step];
-    let says = steps_say(alloc, config, &mut steps, due);
-    drop(steps);
-    says
+    calls: &mut [Call<F, T>],
+) -> Result<Vec<Result<Answer, Fault>>, AllocError> {
+    let (entries, objects) = (MapStore::new(alloc), MapStore::new(alloc));
+    let mut session = Session::<Sha256, _, _>::new(alloc, config, entries, objects);
+    let answers = session.serve_all(calls);
+    drop(session);
+    answers
 }
 
-/// What a scenario's tool is made of, but for the texts of a call.
-#[derive(Drop)]
-struct ToolParts {
-    config: KeyConfig,
-    compilers: EachKind,
+/// Adds what a session answers these calls.
+fn push_list<F: Files, T: Tool>(
+    alloc: Global,
+    config: Config,
+    calls: &mut [Call<F, T>],
+    turns: &[Turn],
+    text: &mut String,
+) -> Result<(), AllocError> {
+    let answers = answers_of(alloc, config, calls)?;
+    let pushed = push_answered(alloc, "list:", answers.as_slice(), turns, text);
+    drop(answers);
+    pushed
+}
+
+/// A tool of that configuration, whose compilers end with these statuses.
+fn tool_of(
+    alloc: Global,
+    config: &KeyConfig,
     statuses: Statuses,
+) -> Result<FailTool<ScriptTool>, AllocError> {
+    let config = config.clone()?;
+    let compilers = EachKind::new(alloc)?;
+    let tool = ScriptTool::new(config, CrateTexts::empty(alloc), compilers, statuses);
+    Ok(FailTool::new(tool, u64::MAX))
 }
 
-/// Likewise of this call, by a tool of these parts.
-fn call_says(
+/// The tools of as many calls, each with its own statuses.
+fn tools_of(
     alloc: Global,
-    config: Config,
-    call: ScenarioCall,
-    parts: ToolParts,
-    due: &AnswerTexts,
-) -> Result<bool, AllocError> {
+    config: &KeyConfig,
+    statuses: Vec<Statuses>,
+) -> Result<Vec<FailTool<ScriptTool>>, AllocError> {
+    let mut tools = Vec::new(alloc);
+    for statuses in statuses {
+        tools.push(tool_of(alloc, config, statuses)?)?;
+    }
+    Ok(tools)
+}
+
+/// The call by that tool, whose rustc reports what the call says.
+fn step_of(call: ScenarioCall, tool: FailTool<ScriptTool>) -> Step {
     let ScenarioCall {
         request,
         files,
         crate_texts,
         forget: _,
     } = call;
-    let tool = ScriptTool::new(parts.config, crate_texts, parts.compilers, parts.statuses);
-    let step = Call {
+    let mut tool = tool;
+    tool.tool.tell(crate_texts);
+    Call {
         request,
         files: FailFiles::new(files, u64::MAX),
-        tool: FailTool::new(tool, u64::MAX),
-    };
-    step_says(alloc, config, step, due)
+        tool,
+    }
 }
 
-/// Likewise of the last call of this scenario, if it has one.
-fn last_says(
+/// The calls, each by its own tool.
+fn steps_of(
+    alloc: Global,
+    calls: Vec<ScenarioCall>,
+    tools: Vec<FailTool<ScriptTool>>,
+) -> Result<Vec<Step>, AllocError> {
+    let mut steps = Vec::new(alloc);
+    for (call, tool) in calls.into_iter().zip(tools) {
+        steps.push(step_of(call, tool))?;
+    }
+    Ok(steps)
+}
+
+/// Adds what these steps are answered as a build and as a list.
+fn push_steps<F: Files, T: Tool>(
+    alloc: Global,
+    config: Config,
+    steps: &mut [Call<F, T>],
+    turns: &[Turn],
+    text: &mut String,
+) -> Result<(), AllocError> {
+    push_build(alloc, &config, steps, turns, text)?;
+    push_list(alloc, config, steps, turns, text)
+}
+
+/// Adds what the calls of this scenario are answered as one list, by tools whose compilers end with these statuses.
+fn push_scenario(
     alloc: Global,
     scenario: Scenario,
-    compilers: EachKind,
-    statuses: Statuses,
-    due: &AnswerTexts,
-) -> Result<bool, AllocError> {
+    statuses: Vec<Statuses>,
+    turns: &[Turn],
+    text: &mut String,
+) -> Result<(), AllocError> {
     let Scenario {
         session_config,
         tool_config,
         capacity: _,
-        mut calls,
+        calls,
     } = scenario;
-    let parts = ToolParts {
-        config: tool_config,
-        compilers,
-        statuses,
-    };
-    let call = calls.pop();
-    drop(calls);
-    match call {
-        Some(call) => call_says(alloc, session_config, call, parts, due),
-        None => {
-            drop(parts);
-            drop(session_config);
-            Ok(false)
-        }
-    }
+    let tools = tools_of(alloc, &tool_config, statuses)?;
+    let mut steps = steps_of(alloc, calls, tools)?;
+    drop(tool_config);
+    let pushed = push_steps(alloc, session_config, steps.as_mut_slice(), turns, text);
+    drop(steps);
+    pushed
 }
 
-/// Adds a line where a build of the scenario's last call isn't answered like that.
+/// Adds what the calls of the scenario of this line are answered as one list, where these came of each in its turn.
 pub(crate) fn push_built(
     alloc: Global,
     line: &[u8],
-    due: &AnswerTexts,
+    turns: &[Turn],
     text: &mut String,
 ) -> Result<(), Stop> {
+    let mut statuses = Vec::new(alloc);
+    for _ in turns {
+        let print: StatusOf = Box::new(alloc, |text: &[u8]| print_status(text))?;
+        let compile: StatusOf = Box::new(alloc, |text: &[u8]| error_status(text))?;
+        statuses.push(Statuses::new(print, compile))?;
+    }
     let scenario = read_scenario(alloc, line)?;
-    let says = scenario_says(alloc, scenario, due)?;
-    push_unless(says, "a build is answered as its call", text)?;
-    Ok(())
-}
-
-/// Likewise of the last call of this scenario, by compilers of its own.
-fn scenario_says(alloc: Global, scenario: Scenario, due: &AnswerTexts) -> Result<bool, AllocError> {
-    let print: StatusOf = Box::new(alloc, |text: &[u8]| print_status(text))?;
-    let compile: StatusOf = Box::new(alloc, |text: &[u8]| error_status(text))?;
-    let compilers = EachKind::new(alloc)?;
-    last_says(
-        alloc,
-        scenario,
-        compilers,
-        Statuses::new(print, compile),
-        due,
-    )
+    Ok(push_scenario(alloc, scenario, statuses, turns, text)?)
 }

@@ -1,17 +1,20 @@
 //! Hostile use, for the program `tests_calls`: reads scenarios, a line each, from standard input, and serves each again and again, while
-//! each I/O call fails in turn. It prints what came of it, and what isn't as it has to be. What is answered where a store forgets or refuses
-//! is promised by `serve`, for all stores.
+//! each I/O call fails in turn, while stores forget and refuse, and as one list. It prints what came of it, and what isn't as it has to be.
 //!
 //! Of each scenario these lines are printed:
 //!
 //! - what each request is answered where nothing fails, and how often a step before the compile and a compile ran:
 //!   `1: fresh obj:22; stored obj:22; preprocesses 2; compiles 1`;
 //! - the faults of the runs in which each call of the files fails in turn, each fault once, and of those in which each of the tool does:
-//!   `files fail: tool preprocess, tool compile,`.
+//!   `files fail: tool preprocess, tool compile,`;
+//! - how often the store of include records and that of outputs are asked, and then, for each run in which one of them drops all at one
+//!   call, or at each, or refuses one pair, or each: `drop at 3: fresh fresh; compiles 2; forgot 1; lost some; holds 1`;
+//! - where the scenario has a capacity, the same of a store of outputs that holds no more: `capacity 1: fresh stored fresh; ..`;
+//! - what a build of all requests (`run_steps`) and one list of them (`serve_all`) are answered: `build: fresh stored`.
 //!
 //! In each of these runs a request is answered the outputs of the first run, or the fault of the call that failed, and then its outputs
-//! when it is served again. A build of the last request alone (`run_steps`) is answered the same. Where it isn't so, a line says it: `not
-//! so: ..`.
+//! when it is served again. In a build and in a list its outputs come from where they came from in the first run, too. Where it isn't so,
+//! a line says it: `not so: ..`. What a scenario says of dropping all that is held before a request isn't followed in any run.
 //!
 //! With the argument `growths` each scenario is only served twice, and one allocation may be refused meanwhile: what is printed
 //! is then the same, or nothing, with status 2. `bin/refusals` refuses each allocation in turn.
@@ -22,6 +25,7 @@
 
 mod answers;
 mod builds;
+mod forgetting;
 mod growths;
 mod readings;
 mod refusals;
@@ -29,6 +33,7 @@ mod runs;
 mod stores;
 
 use crate::builds::push_built;
+use crate::forgetting::push_forgetting;
 use crate::growths::push_growths;
 use crate::readings::{push_key, push_record};
 use crate::refusals::push_refusals;
@@ -41,7 +46,7 @@ use std::io::{ErrorKind, Read, Write};
 /// What is done with what standard input gives.
 #[derive(Clone, Copy)]
 enum Mode {
-    /// I/O calls of scenarios fail.
+    /// I/O calls of scenarios fail, and stores forget and refuse.
     Devices,
     /// An allocation may be refused.
     Growths,
@@ -141,7 +146,7 @@ fn push_scenario(
     push_devices(alloc, line, text)
 }
 
-/// Adds what came of the runs in which I/O calls fail.
+/// Adds what came of the runs in which I/O calls fail, and stores forget and refuse.
 fn push_devices(alloc: Global, line: &[u8], text: &mut String) -> Result<(), Stop> {
     let plain = plain_run(alloc, line, NONE_FAILS)?;
     let pushed = push_beside(alloc, line, &plain, text);
@@ -154,10 +159,8 @@ fn push_beside(alloc: Global, line: &[u8], plain: &Run, text: &mut String) -> Re
     let turns = plain.turns.as_slice();
     push_plain(plain, text)?;
     push_refusals(alloc, line, turns, text)?;
-    match turns {
-        [.., last] => push_built(alloc, line, &last.answer, text),
-        [] => Ok(()),
-    }
+    push_forgetting(alloc, line, plain, text)?;
+    push_built(alloc, line, turns, text)
 }
 
 /// Adds what came of the run in which nothing fails.

@@ -1,10 +1,9 @@
 //! Runs of a scenario in one session: texts and numbers come of them.
 
-use crate::answers::{AnswerTexts, answer_texts};
-use crate::stores::{Outputs, Records, Seen, Served, seen_of};
+use crate::answers::AnswerTexts;
+use crate::stores::{Seen, Served, Watched};
 use base_files::{Files, OsBytes};
 use ckeys::{EntryKey, PreprocessorCacheEntry};
-use ckeys_base::Store;
 use ckeys_records::{KeyConfig, Preprocessor, Step, Ticks};
 use cmdlines::EachKind;
 use sccache_scenarios::{Scenario, ScenarioCall, ScenarioFault, read_scenario};
@@ -17,7 +16,7 @@ use tests_kit::{FailFiles, FailTool};
 use thiserror::Error;
 use wrap::Session;
 use wrap_base::store_key::{Pairs, StoreKey};
-use wrap_base::{Request, Tool};
+use wrap_base::{MapStore, Request, Tool};
 
 /// Why nothing is printed.
 #[derive(Debug, Drop, Error)]
@@ -103,30 +102,11 @@ pub(crate) struct Run {
     pub(crate) end: State,
 }
 
-/// What the session answers. Who calls this loads none of what that promises.
-fn served<
-    E: Store<EntryKey, PreprocessorCacheEntry> + Drop,
-    O: Store<StoreKey, Pairs> + Drop,
-    F: Files,
-    T: Tool,
->(
-    alloc: Global,
-    session: &mut Session<Sha256, E, O>,
-    request: &Request,
-    files: &mut F,
-    tool: &mut T,
-) -> Result<AnswerTexts, AllocError> {
-    let answer = session.serve(request, files, tool);
-    let texts = answer_texts(alloc, &answer);
-    drop(answer);
-    texts
-}
-
 /// The state of the session and the tool.
-fn state_of<T: Tool>(session: &Served, tool: &FailTool<T>) -> State {
+fn state_of<S: Served, T: Tool>(session: &S, tool: &FailTool<T>) -> State {
     State {
-        records: seen_of(session.entries()),
-        outputs: seen_of(session.objects()),
+        records: session.records(),
+        outputs: session.outputs(),
         ticks: tool.ticks(),
         failed: tool.failed_step.is_some(),
     }
@@ -168,16 +148,16 @@ fn push_answer(
 }
 
 /// Serves the request, and serves it again where an I/O call failed or memory ran out.
-fn push_served<F: Files, T: Tool>(
+fn push_served<S: Served, F: Files, T: Tool>(
     alloc: Global,
-    session: &mut Served,
+    session: &mut S,
     request: &Request,
     files: &mut FailFiles<F>,
     tool: &mut FailTool<T>,
     turns: &mut Vec<Turn>,
 ) -> Result<(), AllocError> {
     let before = state_of(session, tool);
-    let answer = served(alloc, session, request, files, tool)?;
+    let answer = session.answered(alloc, request, files, tool)?;
     let after = state_of(session, tool);
     push_answer(before, after, answer, turns)?;
     let Some(turn) = turns.last_mut() else {
@@ -186,7 +166,7 @@ fn push_served<F: Files, T: Tool>(
     let name = files.failed_name.as_ref();
     turn.due = due_fault(alloc, &before, &after, tool.last_step, name)?;
     if turn.due.is_some() || turn.answer.is_fault("memory") {
-        turn.again = Some(served(alloc, session, request, files, tool)?);
+        turn.again = Some(session.answered(alloc, request, files, tool)?);
     }
     Ok(())
 }
@@ -201,11 +181,11 @@ fn files_left<F: Files>(files: &FailFiles<F>) -> u64 {
 }
 
 /// Serves the call, and adds what came of it. The files' call after that many fails. Returns after how many that is in the calls to come.
-fn push_turn<T: RetoldTool>(
+fn push_turn<S: Served, T: RetoldTool>(
     alloc: Global,
     call: ScenarioCall,
     left: u64,
-    session: &mut Served,
+    session: &mut S,
     tool: &mut FailTool<T>,
     turns: &mut Vec<Turn>,
 ) -> Result<u64, AllocError> {
@@ -226,11 +206,11 @@ fn push_turn<T: RetoldTool>(
 }
 
 /// Serves the calls in order, and adds what came of each. The files' call after that many fails.
-fn push_turns<T: RetoldTool>(
+fn push_turns<S: Served, T: RetoldTool>(
     alloc: Global,
     calls: Vec<ScenarioCall>,
     files_left: u64,
-    session: &mut Served,
+    session: &mut S,
     tool: &mut FailTool<T>,
     turns: &mut Vec<Turn>,
 ) -> Result<(), AllocError> {
@@ -242,11 +222,11 @@ fn push_turns<T: RetoldTool>(
 }
 
 /// Serves the calls in order. The files' call after that many fails.
-fn turns_of<T: RetoldTool>(
+fn turns_of<S: Served, T: RetoldTool>(
     alloc: Global,
     calls: Vec<ScenarioCall>,
     files_left: u64,
-    session: &mut Served,
+    session: &mut S,
     tool: &mut FailTool<T>,
 ) -> Result<Run, AllocError> {
     let mut turns = Vec::new(alloc);
@@ -263,12 +243,12 @@ fn turns_of<T: RetoldTool>(
 }
 
 /// Serves the calls by a scripted tool of this configuration. One call of each device fails.
-fn run_calls(
+fn run_calls<S: Served>(
     alloc: Global,
     config: KeyConfig,
     calls: Vec<ScenarioCall>,
     limits: Limits,
-    session: &mut Served,
+    session: &mut S,
 ) -> Result<Run, AllocError> {
     let print: StatusOf = Box::new(alloc, |text: &[u8]| print_status(text))?;
     let compile: StatusOf = Box::new(alloc, |text: &[u8]| error_status(text))?;
@@ -277,13 +257,13 @@ fn run_calls(
 }
 
 /// Serves the calls by a scripted tool whose compilers end with these statuses.
-fn run_by(
+fn run_by<S: Served>(
     alloc: Global,
     config: KeyConfig,
     statuses: Statuses,
     calls: Vec<ScenarioCall>,
     limits: Limits,
-    session: &mut Served,
+    session: &mut S,
 ) -> Result<Run, AllocError> {
     let compilers = EachKind::new(alloc)?;
     let tool = ScriptTool::new(config, CrateTexts::empty(alloc), compilers, statuses);
@@ -293,20 +273,32 @@ fn run_by(
     run
 }
 
-/// A run of the scenario of this line over stores that are empty at first, in which one call of each device fails.
-pub(crate) fn plain_run(alloc: Global, line: &[u8], limits: Limits) -> Result<Run, Stop> {
+/// A run of the scenario of this line over these stores, in which one call of each device fails. All calls are served, whatever is to be
+/// forgotten before one of them.
+pub(crate) fn run_over<E: Watched<EntryKey, PreprocessorCacheEntry>, O: Watched<StoreKey, Pairs>>(
+    alloc: Global,
+    line: &[u8],
+    limits: Limits,
+    entries: E,
+    objects: O,
+) -> Result<Run, Stop> {
     let Scenario {
         session_config,
         tool_config,
         capacity: _,
         calls,
     } = read_scenario(alloc, line)?;
-    let entries = Records::new(alloc);
-    let objects = Outputs::new(alloc);
-    let mut session = Served::new(alloc, session_config, entries, objects);
+    let mut session = Session::<Sha256, E, O>::new(alloc, session_config, entries, objects);
     let run = run_calls(alloc, tool_config, calls, limits, &mut session);
     drop(session);
     Ok(run?)
+}
+
+/// A run over stores that keep all unless memory runs out, in which one call of each device fails.
+pub(crate) fn plain_run(alloc: Global, line: &[u8], limits: Limits) -> Result<Run, Stop> {
+    let entries = MapStore::new(alloc);
+    let objects = MapStore::new(alloc);
+    run_over(alloc, line, limits, entries, objects)
 }
 
 /// Adds these answers in brief.
