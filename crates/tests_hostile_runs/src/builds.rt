@@ -29,7 +29,10 @@ fn push_answered(
 ) -> Result<(), AllocError> {
     let mut same = answers.len() == turns.len();
     text.push_str(name)?;
-    for (answer, turn) in answers.iter().zip(turns) {
+    for (number, answer) in answers.iter().enumerate() {
+        let Some(turn) = turns.get(number) else {
+            break;
+        };
         let said = answer_texts(alloc, answer)?;
         let word = said.word;
         same = same && word == turn.answer.word && said.agrees(&turn.answer);
@@ -95,7 +98,7 @@ fn tool_of(
     Ok(FailTool::new(tool, u64::MAX))
 }
 
-/// The tools of as many calls, each with its own statuses.
+/// As many tools as these are, each with its own statuses.
 fn tools_of(
     alloc: Global,
     config: &KeyConfig,
@@ -125,14 +128,18 @@ fn step_of(call: ScenarioCall, tool: FailTool<ScriptTool>) -> Step {
     }
 }
 
-/// The calls, each by its own tool.
+/// The calls, each by one of as many tools, which differ in nothing.
 fn steps_of(
     alloc: Global,
     calls: Vec<ScenarioCall>,
     tools: Vec<FailTool<ScriptTool>>,
 ) -> Result<Vec<Step>, AllocError> {
+    let mut tools = tools;
     let mut steps = Vec::new(alloc);
-    for (call, tool) in calls.into_iter().zip(tools) {
+    for call in calls {
+        let Some(tool) = tools.pop() else {
+            break;
+        };
         steps.push(step_of(call, tool))?;
     }
     Ok(steps)

@@ -72,7 +72,10 @@ fn seen_in(run: &Run, which: Which) -> Seen {
 /// Adds a line where an answer has other outputs than that of the plain run.
 fn push_unless_agreed(turns: &[Turn], plain: &[Turn], text: &mut String) -> Result<(), AllocError> {
     push_unless(turns.len() == plain.len(), "as many answers", text)?;
-    for (turn, due) in turns.iter().zip(plain) {
+    for (number, turn) in turns.iter().enumerate() {
+        let Some(due) = plain.get(number) else {
+            break;
+        };
         push_unless(turn.answer.agrees(&due.answer), "the same outputs", text)?;
     }
     Ok(())
