@@ -98,8 +98,7 @@ pub(crate) trait Served {
 }
 
 impl<E: Watched<EntryKey, PreprocessorCacheEntry>, O: Watched<StoreKey, Pairs>> Served
-    for Session<Sha256, E, O>
-{
+    for Session<Sha256, E, O> {
     fn answered<F: Files, T: Tool>(
         &mut self,
         alloc: Global,
