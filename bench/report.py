@@ -66,7 +66,7 @@ def build():
 
 def reported(file, text):
     """The processor time of a run over that database, which is to print this text."""
-    seconds, printed = run([str(PROGRAM), "--report"], source=file)
+    seconds, printed = run(["sccache-report"], source=file, program=str(PROGRAM))
     if printed != text:
         stop(f"the lines for {file} are others than those that are due")
     return seconds

@@ -10,11 +10,12 @@ def stop(message):
     sys.exit(f"bench/run: {message}")
 
 
-def run(words, variables=None, folder=None, source=os.devnull):
-    """Runs a command on that input, and gives the processor time that it took, in seconds, and what it printed."""
+def run(words, variables=None, folder=None, source=os.devnull, program=None):
+    """Runs a command on that input, and gives the processor time that it took, in seconds, and what it printed. Where there is a program,
+    it is run under the name of the first word."""
     with open(source, "rb") as given, tempfile.TemporaryFile() as output:
         environment = {**os.environ, **(variables or {})}
-        child = subprocess.Popen(words, stdin=given, stdout=output, env=environment, cwd=folder)
+        child = subprocess.Popen(words, executable=program, stdin=given, stdout=output, env=environment, cwd=folder)
         _, status, usage = os.wait4(child.pid, 0)
         child.returncode = os.waitstatus_to_exitcode(status)
         if child.returncode != 0:

@@ -57,7 +57,7 @@ KEYS = (
 def texts_of(folder, suffix=""):
     """The rows below a folder of cases, with their names."""
     rows = [row for row in sorted(Path(TOP, folder).glob("*/*")) if row.is_file()]
-    return [row for row in rows if row.suffix not in (".stdout", ".args") and row.name.endswith(suffix)]
+    return [row for row in rows if row.suffix not in (".stdout", ".stderr", ".args") and row.name.endswith(suffix)]
 
 
 def dumped(random, value):
@@ -137,16 +137,16 @@ class Part:
 
 
 class Scenarios(Part):
-    """Scenarios, with their response files, texts with markers and texts on dependencies, changed as text or in one of their members. They
-    are run with these arguments."""
+    """Scenarios, with their response files, texts with markers and texts on dependencies, changed as text or in one of their members. The
+    program is run under that name."""
 
     weighty = ("files", "words", "dep_info", "file_names", "env", "archives", "text", "hex", "basedirs", "zone", "version")
 
     program = "sccache_wrap"
     refusals = re.compile(rb"sccache-wrap: (?:scenario cannot be read|memory)\n")
 
-    def __init__(self, words):
-        self.words = words
+    def __init__(self, called):
+        self.called = called
         rows = texts_of("crates/sccache_wrap/cases")
         rows += sorted(Path(TOP, "examples").glob("*.json"))
         self.rows = [row.read_bytes() for row in rows]
@@ -174,7 +174,7 @@ class Scenarios(Part):
         while True:
             data, made = self.scenario(random, random.choice(self.rows))
             if made <= MOST_MADE:
-                return self.words, data, len(data) + made
+                return [], data, len(data) + made
 
     def fault(self, ended):
         """What is wrong with how it ended, or nothing."""
@@ -189,6 +189,7 @@ class Grown(Part):
     """Scenarios in which one list is long. Each is compiled, and what takes the square of the length takes too long."""
 
     program = "sccache_wrap"
+    called = "sccache-wrap"
     seconds_each = running.SECONDS_EACH / 10
 
     def make(self, random):
@@ -208,6 +209,7 @@ class Databases(Part):
     """Recorded builds, and command lines with the files that they name."""
 
     program = "sccache_wrap"
+    called = "sccache-report"
     refusals = re.compile(rb"sccache-report: [^\n]+\n")
 
     def __init__(self):
@@ -234,11 +236,11 @@ class Databases(Part):
             words, row = random.choice(self.rows)
             if not words:
                 row = self.build(random, row)
-                return ["--report"], row, len(row)
+                return [], row, len(row)
             row = mutations.mutated(random, row)
             made = made_of_lines(row)
             if made <= MOST_MADE:
-                return ["--report", *words], row, len(row) + made
+                return words, row, len(row) + made
 
     def fault(self, ended):
         """What is wrong with how it ended, or nothing."""
@@ -252,7 +254,7 @@ class Databases(Part):
 class Bytes(Part):
     """The bytes of include records, or what is hashed of requests to rustc, after three lines with its shape."""
 
-    program = "tests_calls"
+    program = called = "tests_calls"
     said = re.compile(rb"(?:a record of [0-9]+ files|the parts of a request|no parts|refused: [^\n]+)\n")
 
     def __init__(self, word):

@@ -28,13 +28,13 @@ def limit():
     resource.setrlimit(resource.RLIMIT_CORE, (0, 0))
 
 
-def run(words, data, folder=None, variables=None):
-    """Runs the command over these bytes."""
+def run(words, data, folder=None, variables=None, program=None):
+    """Runs the command over these bytes: the program, where there is one, under the name of the first word."""
     with tempfile.TemporaryFile() as given, tempfile.TemporaryFile() as output, tempfile.TemporaryFile() as errors:
         given.write(data)
         given.seek(0)
         process = subprocess.Popen(
-            words, stdin=given, stdout=output, stderr=errors, cwd=folder, env=variables, preexec_fn=limit
+            words, executable=program, stdin=given, stdout=output, stderr=errors, cwd=folder, env=variables, preexec_fn=limit
         )
         _, status, used = os.wait4(process.pid, 0)
         process.returncode = os.waitstatus_to_exitcode(status)

@@ -1,6 +1,6 @@
 //! The programs: they read a scenario, serve its requests in order and print what each is answered, and one of them why it was compiled.
 
-ghost use Rattle.std.specs.Prelude.{◌≡◌, ◌⊎◌, ◌<◌, ◌↔◌, length, OnOk, IfErr, IsErrOf};
+ghost use Rattle.std.specs.Prelude.{◌≡◌, ◌⊎◌, ◌<◌, ◌≤◌, ◌↔◌, length, OnOk, IfOk, IfErr, IsErrOf};
 ghost use Rattle.std.specs.Io.KnownBytes.{IsAtEnd};
 
 use crate::explaining::Explainer;
@@ -15,12 +15,14 @@ use sccache_script_tool::{
 };
 use sha2::Sha256;
 use std::alloc::{AllocError, AllocFailed, Global};
-use std::io;
 use std::io::{ErrorKind, Read, Write};
 use thiserror::Error;
 use wrap::{Fingerprint, Session};
 use wrap_base::store_key::{Pairs, StoreKey};
 use wrap_base::{Answer, How, MapStore, Output, Request, Tool};
+
+/// How many bytes are read at a time.
+const PIECE: usize = 8192;
 
 /// The include records.
 type Entries = MapStore<EntryKey, PreprocessorCacheEntry>;
@@ -31,10 +33,10 @@ pub enum RunFault {
     /// There is an argument.
     #[error("sccache-wrap: no arguments are taken")]
     Arguments,
-    /// The scenario can't be read, or the reader failed.
+    /// The scenario can't be read, or the reader failed, by whatever error.
     #[error("sccache-wrap: scenario cannot be read")]
     Scenario,
-    /// The writer failed.
+    /// The writer failed, by whatever error.
     #[error("sccache-wrap: output cannot be written")]
     Output,
     /// Out of memory while no request was served.
@@ -139,11 +141,42 @@ fn whole_scenario<R: Read>(alloc: Global, reader: &mut R) -> Result<Scenario, Ru
     ensures fault { IfErr result (λ f. (f ≡ RunFault.Scenario) ⊎ (f ≡ RunFault.Memory)) }
     ensures read { OnOk result (IsAtEnd (R.remaining reader.new)) }
 {
-    let mut bytes = Vec::new(alloc);
-    reader
-        .read_to_end(&mut bytes)
-        .map_err(|error| fault_of(&error, RunFault::Scenario))?;
+    let bytes = whole_text(alloc, reader)?;
     Ok(read_scenario(alloc, bytes.as_slice())?)
+}
+
+/// The bytes that the reader gives to its end. `Memory` is of these bytes alone: a reader that fails is `Scenario`, also for want of memory.
+fn whole_text<R: Read>(alloc: Global, reader: &mut R) -> Result<Vec<u8>, RunFault>
+    ensures fault { IfErr result (λ f. (f ≡ RunFault.Scenario) ⊎ (f ≡ RunFault.Memory)) }
+    ensures read { OnOk result (IsAtEnd (R.remaining reader.new)) }
+{
+    let mut bytes = Vec::new(alloc);
+    let mut piece = [0u8; PIECE];
+    for _ in 0..u64::MAX {
+        let count = piece_length(reader, &mut piece)?;
+        if count == 0 {
+            return Ok(bytes);
+        }
+        bytes.extend_from_slice(&piece[..count])?;
+    }
+    Err(RunFault::Scenario)
+}
+
+/// Reads a piece, and says of how many bytes it is: none where the reader is at its end.
+fn piece_length<R: Read>(reader: &mut R, piece: &mut [u8]) -> Result<usize, RunFault>
+    requires { 0 < length piece.old }
+    ensures fault { IfErr result (λ f. f ≡ RunFault.Scenario) }
+    ensures within { IfOk result (λ count. count ≤ length piece.new) }
+    ensures end { IfOk result (λ count. count ≡ 0 → IsAtEnd (R.remaining reader.new)) }
+{
+    for _ in 0..u64::MAX {
+        match reader.read(piece) {
+            Ok(count) => return Ok(count),
+            Err(error) if error.kind() == ErrorKind::Interrupted => {}
+            Err(_) => return Err(RunFault::Scenario),
+        }
+    }
+    Err(RunFault::Scenario)
 }
 
 /// Serves the calls over a store of objects that is bounded where the scenario says so.
@@ -248,9 +281,7 @@ fn write_count<W: Write>(alloc: Global, compiles: u64, writer: &mut W) -> Result
     ensures fault { IfErr result (λ f. (f ≡ RunFault.Output) ⊎ (f ≡ RunFault.Memory)) }
 {
     write_line(writer, &format!(in alloc; "compiles {compiles}\n")?)?;
-    writer
-        .flush()
-        .map_err(|error| fault_of(&error, RunFault::Output))
+    writer.flush().map_err(|_| RunFault::Output)
 }
 
 /// The line of an answer with its end, and before that what the explainer has to say of it.
@@ -326,18 +357,7 @@ fn write_line<W: Write>(writer: &mut W, line: &String) -> Result<(), RunFault>
 {
     writer
         .write_all(line.as_bytes())
-        .map_err(|error| fault_of(&error, RunFault::Output))
-}
-
-/// `Memory` where the I/O error was out of memory, and the other fault where it is anything else.
-fn fault_of(error: &io::Error, other: RunFault) -> RunFault
-    ensures { (result ≡ other) ⊎ (result ≡ RunFault.Memory) }
-{
-    if error.kind() == ErrorKind::OutOfMemory {
-        RunFault::Memory
-    } else {
-        other
-    }
+        .map_err(|_| RunFault::Output)
 }
 
 /// The line that says what the request of this number is answered, without its end.

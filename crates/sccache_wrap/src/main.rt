@@ -1,5 +1,6 @@
-//! The program `sccache-wrap`: reads a scenario from standard input and prints what its requests are answered. With `--explain` as its first
-//! argument it also prints why they were compiled. With `--report` it reads a recorded build and prints what a cache would keep of it.
+//! The program `sccache-wrap`: reads a scenario from standard input and prints what its requests are answered. Run under the name
+//! `sccache-explain` it also prints why they were compiled, and under the name `sccache-report` it reads a recorded build and prints what a
+//! cache would keep of it.
 #![tactic(auto)]
 
 use sccache_reports::ReportFault;
@@ -13,12 +14,54 @@ use std::{env, io};
 /// The status of a program that couldn't run.
 const FAILED: u8 = 2;
 
+/// More bytes than a path of a program has.
+const PATH_MAX: usize = 4096;
+
+/// What the program is run as.
+#[derive(Clone, Copy)]
+enum Called {
+    /// `sccache-wrap`, which every other name means too.
+    Wrap,
+    /// `sccache-explain`.
+    Explain,
+    /// `sccache-report`.
+    Report,
+}
+
 fn main(rt: HostRuntime) -> ExitCode {
-    if is_report(&rt) {
-        ended(&rt, &report(&rt))
-    } else {
-        ended(&rt, &serve(&rt))
+    match called(&rt) {
+        Called::Wrap => ended(&rt, &serve(&rt, false)),
+        Called::Explain => ended(&rt, &serve(&rt, true)),
+        Called::Report => ended(&rt, &report(&rt)),
     }
+}
+
+/// What the program is run as, by argument 0.
+fn called<R: Env>(rt: &R) -> Called {
+    let mut path = [0u8; PATH_MAX];
+    match rt.arg(0, &mut path) {
+        Ok(length) => match path.get(..length) {
+            Some(path) => called_by(path),
+            None => Called::Wrap,
+        },
+        Err(_) => Called::Wrap,
+    }
+}
+
+/// What the program of this path is run as.
+fn called_by(path: &[u8]) -> Called {
+    if is_named(path, b"sccache-explain") {
+        Called::Explain
+    } else if is_named(path, b"sccache-report") {
+        Called::Report
+    } else {
+        Called::Wrap
+    }
+}
+
+/// Whether that is the last name of a path.
+fn is_named(path: &[u8], name: &[u8]) -> bool {
+    matches!(path.strip_suffix(name), Some([] | [.., b'/']))
 }
 
 /// Says why the program couldn't run, if so.
@@ -32,18 +75,8 @@ fn ended<R: Eprint, E: Display + Drop>(rt: &R, done: &Result<(), E>) -> ExitCode
     }
 }
 
-/// Whether the first argument is `--report`. It is looked at before all arguments are read, since a report says in its own words that one
-/// can't be.
-fn is_report<R: Env>(rt: &R) -> bool {
-    let mut word = [0u8; 8];
-    match rt.arg(1, &mut word) {
-        Ok(length) => word.get(..length) == Some(b"--report".as_slice()),
-        Err(_) => false,
-    }
-}
-
 /// Serves the scenario of standard input.
-fn serve<R: Print + Input + Env + AllocGlobal>(rt: &R) -> Result<(), RunFault> {
+fn serve<R: Print + Input + Env + AllocGlobal>(rt: &R, is_explained: bool) -> Result<(), RunFault> {
     let alloc = rt.alloc();
     let words = env::args(rt).map_err(fault_of_arguments)?;
     let args: Vec<String> = words.skip(1).collect(alloc)?;
@@ -51,11 +84,10 @@ fn serve<R: Print + Input + Env + AllocGlobal>(rt: &R) -> Result<(), RunFault> {
     let Ok(mut writer) = BufWriter::new(alloc, io::writer(rt)) else {
         return Err(RunFault::Memory);
     };
-    match args.as_slice() {
-        [option, rest @ ..] if option.as_str() == "--explain" => {
-            run_explained(alloc, rest, &mut reader, &mut writer)
-        }
-        words => run(alloc, words, &mut reader, &mut writer),
+    if is_explained {
+        run_explained(alloc, args.as_slice(), &mut reader, &mut writer)
+    } else {
+        run(alloc, args.as_slice(), &mut reader, &mut writer)
     }
 }
 
@@ -67,11 +99,11 @@ fn fault_of_arguments(error: io::Error) -> RunFault {
     }
 }
 
-/// Reports on the recorded build of standard input, by the arguments after `--report`.
+/// Reports on the recorded build of standard input.
 fn report<R: Print + Input + Env + Files + AllocGlobal>(rt: &R) -> Result<(), ReportFault> {
     let alloc = rt.alloc();
     let words = env::args(rt).map_err(report_fault_of_arguments)?;
-    let args: Vec<String> = words.skip(2).collect(alloc)?;
+    let args: Vec<String> = words.skip(1).collect(alloc)?;
     let mut reader = rt.reader();
     let Ok(mut writer) = BufWriter::new(alloc, io::writer(rt)) else {
         return Err(ReportFault::Memory);
