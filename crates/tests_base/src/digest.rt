@@ -1,7 +1,7 @@
 //! Digests that FIPS 180 prints, and readers that fail.
 
-use ckeys_base::Digest;
 use ckeys_base::error::Error;
+use ckeys_base::{Digest, hex};
 use sha2::Sha256;
 use std::alloc::Global;
 use std::test::Fail;
@@ -58,6 +58,12 @@ fn what_came_before_a_failure_is_shown(rt: HostRuntime) -> Result<(), Fail> {
     });
     let is_told = matches!(text, Err(Error::Io));
     holds(is_told && shown == 0x321, "three pieces, and the failure")
+}
+
+/// The low half of each byte comes first.
+#[test]
+fn two_bytes_are_four_digits(rt: HostRuntime) -> Result<(), Fail> {
+    is_that(hex(rt.alloc(), &[0x1f, 0xa0])?.as_str(), "f10a", "two bytes")
 }
 
 #[test]

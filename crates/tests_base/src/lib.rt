@@ -14,6 +14,8 @@ mod path;
 #[cfg(test)]
 mod requests;
 #[cfg(test)]
+mod steps;
+#[cfg(test)]
 mod strip;
 #[cfg(test)]
 mod texts;

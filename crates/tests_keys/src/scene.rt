@@ -26,12 +26,12 @@ pub(crate) fn digests(alloc: Global) -> Result<Vec<String>, AllocError> {
 }
 
 /// These words.
-fn listed(alloc: Global, line: &str) -> Result<Listed<OsBytes>, AllocError> {
+pub(crate) fn listed(alloc: Global, line: &str) -> Result<Listed<OsBytes>, AllocError> {
     Ok(Listed::from_vec(words(alloc, line)?))
 }
 
 /// These bytes.
-fn bytes(alloc: Global, text: &str) -> Result<OsBytes, AllocError> {
+pub(crate) fn bytes(alloc: Global, text: &str) -> Result<OsBytes, AllocError> {
     OsBytes::from_slice(alloc, text.as_bytes())
 }
 
