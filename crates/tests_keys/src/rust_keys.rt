@@ -109,8 +109,8 @@ fn rust(alloc: Global, files: &mut MemoryFiles) -> Result<Rust, RustFault> {
 /// The key, and the names of what is written.
 fn text_of(alloc: Global, key: &str, made: &RustCompilation) -> Result<String, AllocError> {
     let mut text = format!(in alloc; " {key};")?;
-    for output in made.outputs.as_slice() {
-        write!(text, " {}", output.name)?;
+    for (name, _) in made.outputs.as_slice() {
+        write!(text, " {name}")?;
     }
     Ok(text)
 }
