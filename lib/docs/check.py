@@ -16,6 +16,7 @@ from faults import PATH as FORMATS, faults  # noqa: E402
 from options import differences, untried  # noqa: E402
 from pictures import PICTURES, floors  # noqa: E402
 from sources import Sources, read  # noqa: E402
+from worked import PATH as ROWS, faults as lost_rows  # noqa: E402
 
 TOP = os.path.dirname(os.path.dirname(os.path.dirname(os.path.realpath(__file__))))
 MANUAL = "share/gulmaat.1"
@@ -55,6 +56,9 @@ class Check:
         self.exceptions, self.sources = Exceptions(), Sources(TOP)
         paths = [*sorted(glob.glob("*.md", root_dir=TOP)), *sorted(glob.glob("docs/*.md", root_dir=TOP))]
         paths += ["bench/README.md", "examples/README.md"]
+        # What its rows name is no name of ours, but for where they run.
+        paths.remove(ROWS)
+        self.rows = Document(ROWS, read(f"{TOP}/{ROWS}"))
         self.documents = {path: Document(path, read(f"{TOP}/{path}")) for path in paths}
         self.settings = self.sources.settings()
         # Without the formatting.
@@ -295,6 +299,12 @@ class Check:
             for library in sorted(self.sources.libraries):
                 self.is_so(f"`{library}`" in " ".join(listed), path, f"doesn't list {library} as trusted")
 
+    def worked_rows(self):
+        """Each worked row runs somewhere, and none has left the list in silence."""
+        for line, what in lost_rows(TOP, self.rows):
+            self.is_so(False, f"{ROWS}:{line}", what)
+        self.passed += len(self.rows.rows())
+
     def pictures(self):
         """Each picture is as it would be drawn now, and names crates that are there."""
         for path, draw in PICTURES.items():
@@ -306,7 +316,7 @@ class Check:
     def run(self):
         """All checks. Returns whether any failed."""
         for check in (self.paths, self.links, self.commands, self.names, self.variables, self.keys, self.options, self.crates, self.compilers,
-                      self.clauses, self.faults, self.tables, self.promises, self.trusted, self.pictures):
+                      self.clauses, self.faults, self.tables, self.promises, self.trusted, self.worked_rows, self.pictures):
             check()
         for row in self.exceptions.patterns:
             self.is_so(row in self.exceptions.used, "lib/docs/exceptions", f"nothing needs: {' '.join(row)}")
