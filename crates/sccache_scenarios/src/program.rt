@@ -1,6 +1,6 @@
 //! The programs: they read a scenario, serve its requests in order and print what each is answered, and one of them why it was compiled.
 
-ghost use Rattle.std.specs.Prelude.{◌≡◌, ◌⊎◌, ◌<◌, ◌≤◌, ◌↔◌, length, OnOk, IfOk, IfErr, IsErrOf};
+ghost use Rattle.std.specs.Prelude.{◌≡◌, ◌⊎◌, ◌<◌, ◌↔◌, length, OnOk, IfOk, IfErr, IsErrOf};
 ghost use Rattle.std.specs.Io.KnownBytes.{IsAtEnd};
 
 use crate::explaining::Explainer;
@@ -141,42 +141,50 @@ fn whole_scenario<R: Read>(alloc: Global, reader: &mut R) -> Result<Scenario, Ru
     ensures fault { IfErr result (λ f. (f ≡ RunFault.Scenario) ⊎ (f ≡ RunFault.Memory)) }
     ensures read { OnOk result (IsAtEnd (R.remaining reader.new)) }
 {
-    let bytes = whole_text(alloc, reader)?;
+    let mut bytes = Vec::new(alloc);
+    read_whole(reader, &mut bytes)?;
     Ok(read_scenario(alloc, bytes.as_slice())?)
 }
 
-/// The bytes that the reader gives to its end. `Memory` is of these bytes alone: a reader that fails is `Scenario`, also for want of memory.
-fn whole_text<R: Read>(alloc: Global, reader: &mut R) -> Result<Vec<u8>, RunFault>
+/// Adds the bytes that the reader gives to its end. `Memory` is of these bytes alone: a reader that fails is `Scenario`, also where it does
+/// so for want of memory.
+fn read_whole<R: Read>(reader: &mut R, bytes: &mut Vec<u8>) -> Result<(), RunFault>
     ensures fault { IfErr result (λ f. (f ≡ RunFault.Scenario) ⊎ (f ≡ RunFault.Memory)) }
     ensures read { OnOk result (IsAtEnd (R.remaining reader.new)) }
 {
-    let mut bytes = Vec::new(alloc);
     let mut piece = [0u8; PIECE];
     for _ in 0..u64::MAX {
-        let count = piece_length(reader, &mut piece)?;
-        if count == 0 {
-            return Ok(bytes);
+        if !read_piece(reader, &mut piece, bytes)? {
+            return Ok(());
         }
-        bytes.extend_from_slice(&piece[..count])?;
     }
     Err(RunFault::Scenario)
 }
 
-/// Reads a piece, and says of how many bytes it is: none where the reader is at its end.
-fn piece_length<R: Read>(reader: &mut R, piece: &mut [u8]) -> Result<usize, RunFault>
-    requires { 0 < length piece.old }
-    ensures fault { IfErr result (λ f. f ≡ RunFault.Scenario) }
-    ensures within { IfOk result (λ count. count ≤ length piece.new) }
-    ensures end { IfOk result (λ count. count ≡ 0 → IsAtEnd (R.remaining reader.new)) }
+/// Adds what one read into this room gives, and says whether there may be more. A read that was interrupted gives nothing.
+fn read_piece<R: Read>(
+    reader: &mut R,
+    room: &mut [u8],
+    bytes: &mut Vec<u8>,
+) -> Result<bool, RunFault>
+    requires { 0 < length room.old }
+    ensures fault { IfErr result (λ f. (f ≡ RunFault.Scenario) ⊎ (f ≡ RunFault.Memory)) }
+    ensures end { IfOk result (λ more. more ≡ false → IsAtEnd (R.remaining reader.new)) }
 {
-    for _ in 0..u64::MAX {
-        match reader.read(piece) {
-            Ok(count) => return Ok(count),
-            Err(error) if error.kind() == ErrorKind::Interrupted => {}
-            Err(_) => return Err(RunFault::Scenario),
+    match reader.read(room) {
+        Ok(0) => Ok(false),
+        Ok(count) => {
+            bytes.extend_from_slice(&room[..count])?;
+            Ok(true)
+        }
+        Err(error) => {
+            if error.kind() == ErrorKind::Interrupted {
+                Ok(true)
+            } else {
+                Err(RunFault::Scenario)
+            }
         }
     }
-    Err(RunFault::Scenario)
 }
 
 /// Serves the calls over a store of objects that is bounded where the scenario says so.

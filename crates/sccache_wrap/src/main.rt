@@ -19,7 +19,7 @@ const PATH_MAX: usize = 4096;
 
 /// What the program is run as.
 #[derive(Clone, Copy)]
-enum Called {
+enum Program {
     /// `sccache-wrap`, which every other name means too.
     Wrap,
     /// `sccache-explain`.
@@ -30,32 +30,32 @@ enum Called {
 
 fn main(rt: HostRuntime) -> ExitCode {
     match called(&rt) {
-        Called::Wrap => ended(&rt, &serve(&rt, false)),
-        Called::Explain => ended(&rt, &serve(&rt, true)),
-        Called::Report => ended(&rt, &report(&rt)),
+        Program::Wrap => ended(&rt, &serve(&rt, false)),
+        Program::Explain => ended(&rt, &serve(&rt, true)),
+        Program::Report => ended(&rt, &report(&rt)),
     }
 }
 
 /// What the program is run as, by argument 0.
-fn called<R: Env>(rt: &R) -> Called {
+fn called<R: Env>(rt: &R) -> Program {
     let mut path = [0u8; PATH_MAX];
     match rt.arg(0, &mut path) {
         Ok(length) => match path.get(..length) {
             Some(path) => called_by(path),
-            None => Called::Wrap,
+            None => Program::Wrap,
         },
-        Err(_) => Called::Wrap,
+        Err(_) => Program::Wrap,
     }
 }
 
 /// What the program of this path is run as.
-fn called_by(path: &[u8]) -> Called {
+fn called_by(path: &[u8]) -> Program {
     if is_named(path, b"sccache-explain") {
-        Called::Explain
+        Program::Explain
     } else if is_named(path, b"sccache-report") {
-        Called::Report
+        Program::Report
     } else {
-        Called::Wrap
+        Program::Wrap
     }
 }
 

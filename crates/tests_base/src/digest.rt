@@ -63,7 +63,11 @@ fn what_came_before_a_failure_is_shown(rt: HostRuntime) -> Result<(), Fail> {
 /// The low half of each byte comes first.
 #[test]
 fn two_bytes_are_four_digits(rt: HostRuntime) -> Result<(), Fail> {
-    is_that(hex(rt.alloc(), &[0x1f, 0xa0])?.as_str(), "f10a", "two bytes")
+    is_that(
+        hex(rt.alloc(), &[0x1f, 0xa0])?.as_str(),
+        "f10a",
+        "two bytes",
+    )
 }
 
 #[test]
