@@ -2,22 +2,17 @@
 
 use crate::answers::{answer_texts, push_unless};
 use crate::runs::{Stop, Turn};
-use base_files::{Files, MemoryFiles};
+use base_files::Files;
 use ckeys_records::{Fault, KeyConfig};
 use cmdlines::EachKind;
 use sccache_scenarios::{Scenario, ScenarioCall, read_scenario};
-use sccache_script_tool::{
-    CrateTexts, RetoldTool, ScriptTool, StatusOf, Statuses, error_status, print_status,
-};
+use sccache_script_tool::{ScriptTool, StatusOf, Statuses, error_status, print_status};
 use sha2::Sha256;
 use std::alloc::{AllocError, Global};
 use tests_kit::{FailFiles, FailTool};
 use wrap::Session;
 use wrap_base::{Answer, Call, Config, MapStore, Tool};
 use wrap_uses::run_steps;
-
-/// Files and a tool as in the runs. No call of a device fails.
-type Step = Call<FailFiles<MemoryFiles>, FailTool<ScriptTool>>;
 
 /// Adds the words of the answers, and a line where one of them isn't that of its own turn.
 fn push_answered(
@@ -86,63 +81,31 @@ fn push_list<F: Files, T: Tool>(
     pushed
 }
 
-/// A tool of that configuration, whose compilers end with these statuses.
-fn tool_of(
-    alloc: Global,
-    config: &KeyConfig,
-    statuses: Statuses,
-) -> Result<FailTool<ScriptTool>, AllocError> {
+/// What a call's tool is made of, but for what the call and its compilers say.
+#[derive(Drop)]
+struct ToolParts {
+    config: KeyConfig,
+    compilers: EachKind,
+}
+
+/// Those of one tool of that configuration.
+fn tool_parts(alloc: Global, config: &KeyConfig) -> Result<ToolParts, AllocError> {
     let config = config.clone()?;
     let compilers = EachKind::new(alloc)?;
-    let tool = ScriptTool::new(config, CrateTexts::empty(alloc), compilers, statuses);
-    Ok(FailTool::new(tool, u64::MAX))
+    Ok(ToolParts { config, compilers })
 }
 
-/// As many tools as these are, each with its own statuses.
-fn tools_of(
+/// Those of so many tools.
+fn all_parts(
     alloc: Global,
     config: &KeyConfig,
-    statuses: Vec<Statuses>,
-) -> Result<Vec<FailTool<ScriptTool>>, AllocError> {
-    let mut tools = Vec::new(alloc);
-    for statuses in statuses {
-        tools.push(tool_of(alloc, config, statuses)?)?;
+    tools: usize,
+) -> Result<Vec<ToolParts>, AllocError> {
+    let mut all = Vec::new(alloc);
+    for _ in 0..tools {
+        all.push(tool_parts(alloc, config)?)?;
     }
-    Ok(tools)
-}
-
-/// The call by that tool, whose rustc reports what the call says.
-fn step_of(call: ScenarioCall, tool: FailTool<ScriptTool>) -> Step {
-    let ScenarioCall {
-        request,
-        files,
-        crate_texts,
-        forget: _,
-    } = call;
-    let mut tool = tool;
-    tool.tool.tell(crate_texts);
-    Call {
-        request,
-        files: FailFiles::new(files, u64::MAX),
-        tool,
-    }
-}
-
-/// The calls, each by one of as many tools, which differ in nothing.
-fn steps_of(
-    alloc: Global,
-    calls: Vec<ScenarioCall>,
-    tools: Vec<FailTool<ScriptTool>>,
-) -> Result<Vec<Step>, AllocError> {
-    let mut tools = tools;
-    let mut steps = Vec::new(alloc);
-    for call in calls {
-        let Some(tool) = tools.pop() else {
-            break;
-        };
-        steps.push(step_of(call, tool))?;
-    }
-    Ok(steps)
+    Ok(all)
 }
 
 /// Adds what these steps are answered as a build and as a list.
@@ -157,26 +120,46 @@ fn push_steps<F: Files, T: Tool>(
     push_list(alloc, config, steps, turns, text)
 }
 
-/// Adds what the calls of this scenario are answered as one list, by tools whose compilers end with these statuses.
-fn push_scenario(
+/// Adds what these calls are answered as one list, each by a tool of its own, of one of as many parts.
+fn push_calls(
     alloc: Global,
-    scenario: Scenario,
-    statuses: Vec<Statuses>,
+    config: Config,
+    calls: Vec<ScenarioCall>,
+    parts: Vec<ToolParts>,
     turns: &[Turn],
     text: &mut String,
 ) -> Result<(), AllocError> {
-    let Scenario {
-        session_config,
-        tool_config,
-        capacity: _,
-        calls,
-    } = scenario;
-    let tools = tools_of(alloc, &tool_config, statuses)?;
-    let mut steps = steps_of(alloc, calls, tools)?;
-    drop(tool_config);
-    let pushed = push_steps(alloc, session_config, steps.as_mut_slice(), turns, text);
+    let mut parts = parts;
+    let mut steps = Vec::new(alloc);
+    for call in calls {
+        let Some(parts) = parts.pop() else {
+            break;
+        };
+        let print: StatusOf = Box::new(alloc, |text: &[u8]| print_status(text))?;
+        let compile: StatusOf = Box::new(alloc, |text: &[u8]| error_status(text))?;
+        let statuses = Statuses::new(print, compile);
+        let tool = ScriptTool::new(parts.config, call.crate_texts, parts.compilers, statuses);
+        steps.push(Call {
+            request: call.request,
+            files: FailFiles::new(call.files, u64::MAX),
+            tool: FailTool::new(tool, u64::MAX),
+        })?;
+    }
+    let pushed = push_steps(alloc, config, steps.as_mut_slice(), turns, text);
     drop(steps);
     pushed
+}
+
+/// Adds what the calls of this scenario are answered as one list.
+fn push_scenario(
+    alloc: Global,
+    scenario: Scenario,
+    turns: &[Turn],
+    text: &mut String,
+) -> Result<(), AllocError> {
+    let parts = all_parts(alloc, &scenario.tool_config, scenario.calls.len())?;
+    let (config, calls) = (scenario.session_config, scenario.calls);
+    push_calls(alloc, config, calls, parts, turns, text)
 }
 
 /// Adds what the calls of the scenario of this line are answered as one list, where these came of each in its turn.
@@ -186,12 +169,6 @@ pub(crate) fn push_built(
     turns: &[Turn],
     text: &mut String,
 ) -> Result<(), Stop> {
-    let mut statuses = Vec::new(alloc);
-    for _ in turns {
-        let print: StatusOf = Box::new(alloc, |text: &[u8]| print_status(text))?;
-        let compile: StatusOf = Box::new(alloc, |text: &[u8]| error_status(text))?;
-        statuses.push(Statuses::new(print, compile))?;
-    }
     let scenario = read_scenario(alloc, line)?;
-    Ok(push_scenario(alloc, scenario, statuses, turns, text)?)
+    Ok(push_scenario(alloc, scenario, turns, text)?)
 }
