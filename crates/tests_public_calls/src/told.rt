@@ -1,0 +1,166 @@
+//! Requests answered by a compiler that makes nothing and a rustc that fails: answers that are recorded as they are asked for.
+
+use crate::sessions::{Served, push_answer, served};
+use crate::stop::Stop;
+use base_files::{Listed, MemoryFiles, OsBytes};
+use ckeys_records::output_name::OutputName;
+use ckeys_records::{Preprocessor, Printed, Step};
+use cmdlines_tables::CCompilerKind;
+use sccache_scenarios::{Scenario, ScenarioCall};
+use sccache_script_tool::CrateTexts;
+use std::alloc::{AllocError, Global};
+use wrap_base::{Compiled, Request};
+use wrap_replay_base::{
+    RecordedAnswer, RecordedOutputs, RecordedRustc, RecordedText, ReplayTool, Wanted,
+};
+
+/// How often a request is asked until each of its commands has a recorded answer.
+const STEPS: u8 = 4;
+
+/// The status of a rustc that tells nothing.
+const FAILED: i32 = 3;
+
+/// Adds what each request is answered, each in a session of its own: a compile of it ends with 0 and makes nothing.
+pub(crate) fn push_told(alloc: Global, scenario: Scenario, out: &mut String) -> Result<(), Stop> {
+    let Scenario {
+        session_config,
+        tool_config,
+        capacity: _,
+        calls,
+    } = scenario;
+    drop(tool_config);
+    let mut session = served(alloc, session_config);
+    let mut pushed = Ok(());
+    for call in calls {
+        if pushed.is_ok() {
+            pushed = push_call(alloc, call, &mut session, out);
+        }
+    }
+    drop(session);
+    pushed
+}
+
+/// Adds what this request is answered.
+fn push_call(
+    alloc: Global,
+    call: ScenarioCall,
+    session: &mut Served,
+    out: &mut String,
+) -> Result<(), Stop> {
+    let ScenarioCall {
+        request,
+        mut files,
+        crate_texts,
+        forget: _,
+    } = call;
+    let pushed = push_by(alloc, &request, &mut files, &crate_texts, session, out);
+    drop(crate_texts);
+    drop(files);
+    drop(request);
+    pushed
+}
+
+/// Adds what this request is answered once all is recorded, how many compiles ran for that, and how many pairs the store of outputs holds.
+fn push_by(
+    alloc: Global,
+    request: &Request,
+    files: &mut MemoryFiles,
+    texts: &CrateTexts,
+    session: &mut Served,
+    out: &mut String,
+) -> Result<(), Stop> {
+    let mut tool = ReplayTool::new();
+    tool.rustc = Some(RecordedRustc::new(alloc));
+    for _ in 0..STEPS {
+        let answer = session.serve(request, files, &mut tool);
+        drop(answer);
+        record_wanted(alloc, &mut tool, texts)?;
+    }
+    let before = tool.ticks().compile;
+    let answer = session.serve(request, files, &mut tool);
+    let compiles = tool.ticks().compile.wrapping_sub(before);
+    drop(tool);
+    let pushed = push_answer(alloc, &answer, out);
+    drop(answer);
+    pushed?;
+    let held = session.objects().len();
+    Ok(writeln!(out, "compiles {compiles}; held {held}")?)
+}
+
+/// Records an answer to the command that was asked for and had none.
+fn record_wanted(
+    alloc: Global,
+    tool: &mut ReplayTool,
+    texts: &CrateTexts,
+) -> Result<(), AllocError> {
+    let Some(wanted) = tool.wanted.take() else {
+        return Ok(());
+    };
+    let Wanted { step, words, paths } = wanted;
+    drop(paths);
+    match step {
+        Step::Preprocess => tool.text = Some(text_for(alloc, words)?),
+        Step::Compile => tool.outputs = Some(nothing_for(alloc, words)?),
+        Step::DepInfo => {
+            let answer = answer_for(alloc, words, &texts.dep_info)?;
+            if let Some(rustc) = &mut tool.rustc {
+                rustc.dep_info = Some(answer);
+            }
+        }
+        Step::FileNames => {
+            let answer = answer_for(alloc, words, &texts.file_names)?;
+            if let Some(rustc) = &mut tool.rustc {
+                rustc.file_names = Some(answer);
+            }
+        }
+        Step::ArchiveDigest => drop(words),
+    }
+    Ok(())
+}
+
+/// Gcc's preprocessor prints a declaration.
+fn text_for(alloc: Global, words: Listed<OsBytes>) -> Result<RecordedText, AllocError> {
+    let text = OsBytes::from_slice(alloc, b"int x;\n")?;
+    Ok(RecordedText {
+        kind: CCompilerKind::Gcc,
+        words,
+        printed: Printed { status: 0, text },
+    })
+}
+
+/// Gcc makes no object, and ends with 0.
+fn nothing_for(alloc: Global, words: Listed<OsBytes>) -> Result<RecordedOutputs, AllocError> {
+    let mut names = Listed::new(alloc);
+    names.push(OutputName {
+        name: OsBytes::from_slice(alloc, b"obj")?,
+        optional: false,
+    })?;
+    let mut contents = Listed::new(alloc);
+    contents.push(None)?;
+    Ok(RecordedOutputs {
+        kind: CCompilerKind::Gcc,
+        words,
+        names,
+        made: Compiled {
+            status: 0,
+            contents,
+        },
+    })
+}
+
+/// rustc tells this, and fails where it is nothing. It runs in `/w`.
+fn answer_for(
+    alloc: Global,
+    words: Listed<OsBytes>,
+    text: &OsBytes,
+) -> Result<RecordedAnswer, AllocError> {
+    let status = if text.as_bytes().is_empty() { FAILED } else { 0 };
+    Ok(RecordedAnswer {
+        words,
+        dir: OsBytes::from_slice(alloc, b"/w")?,
+        printed: Printed {
+            status,
+            text: text.clone()?,
+        },
+    })
+}
