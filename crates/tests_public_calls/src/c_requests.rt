@@ -88,12 +88,11 @@ fn push_asked<K: HasKind>(
 
 /// Adds the input, the outputs and the lists of words.
 fn push_lists(parsed: &ParsedArguments, out: &mut String) -> Result<(), AllocError> {
-    write!(out, "{} in {}", parsed.input, parsed.language.as_str())?;
+    writeln!(out, "{} in {}", parsed.input, parsed.language.as_str())?;
     for (name, artifact) in parsed.outputs.as_slice() {
-        write!(out, "; {name} {}", artifact.path)?;
+        writeln!(out, "{name} {} {}", artifact.path, artifact.optional)?;
         push_copy(artifact, "ArtifactDescriptor", out)?;
     }
-    out.push('\n')?;
     push_words("preprocessor:", parsed.preprocessor_args.as_slice(), out)?;
     push_words("hashed:", parsed.common_args.as_slice(), out)
 }
@@ -141,6 +140,7 @@ fn push_without_object<K: HasKind>(
     parsed: &ParsedArguments,
     out: &mut String,
 ) -> Result<(), Stop> {
+    out.push_str("without outputs: ")?;
     let mut bare = parsed.clone()?;
     bare.outputs = Listed::new(alloc);
     let pushed = push_compile(alloc, compiler, request, &bare, out);

@@ -91,8 +91,10 @@ fn compiled(alloc: Global) -> Result<Compiled, AllocError> {
     })
 }
 
-/// Adds lines on copies of keys and of what they are made of.
+/// Adds lines on copies of bytes, of keys, and of what they are made of.
 fn push_key_copies(alloc: Global, out: &mut String) -> Result<(), AllocError> {
+    push_copy(&bytes(alloc, "a")?, "OsBytes", out)?;
+    push_copy(&one(alloc, "a")?, "Listed", out)?;
     push_copy(&output_name(alloc)?, "OutputName", out)?;
     push_copy(&shape(alloc)?, "CShape", out)?;
     push_copy(&Shape::C(shape(alloc)?), "Shape", out)?;

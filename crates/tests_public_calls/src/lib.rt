@@ -10,8 +10,8 @@
 //! - `steps SCENARIO`: the requests asked of one session, as steps of a build;
 //! - `within SCENARIO`: the requests answered over a store of so many pairs as `capacity` says;
 //! - `missed SCENARIO`: in which part each request differs from the first one;
-//! - `told SCENARIO`: the requests answered by a compiler that makes nothing, and by a rustc that ends with status 3 where it is asked what
-//!   `dep_info` or `file_names` says, if that is empty.
+//! - `told SCENARIO`: the requests answered by a compiler that makes nothing and ends with 0, and by a rustc that ends with 3 where
+//!   `dep_info` is empty, and with 4 where `file_names` is.
 //!
 //! And the others:
 //!

@@ -62,6 +62,7 @@ fn push_asked(
     push_copy(rust, "Rust", out)?;
     push_copy(parsed, "ParsedArguments", out)?;
     push_copy(&hasher, "RustHasher", out)?;
+    push_argument_copies(parsed, out)?;
     let env = request.env.as_slice();
     let made = hasher.generate_hash_key::<Sha256, MemoryFiles, ScriptTool>(
         alloc,
@@ -73,6 +74,18 @@ fn push_asked(
     let pushed = push_made(alloc, &made, out);
     drop(made);
     pushed
+}
+
+/// Adds lines on copies of what the first argument is.
+fn push_argument_copies(parsed: &ParsedArguments, out: &mut String) -> Result<(), AllocError> {
+    let [argument, ..] = parsed.arguments.as_slice() else {
+        return Ok(());
+    };
+    push_copy(argument, "Argument", out)?;
+    match argument.get_data() {
+        Some(data) => push_copy(data, "ArgData", out),
+        None => Ok(()),
+    }
 }
 
 /// Adds a key, or why there is none.

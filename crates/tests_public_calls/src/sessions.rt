@@ -300,12 +300,21 @@ fn take_first(
 ) -> Result<(), Stop> {
     match session.fingerprint(request, files, tool) {
         Ok(Ok(made)) => {
-            push_copy(&made, "Fingerprint", out)?;
+            let pushed = push_fingerprint(&made, out);
             *first = Some(made);
-            Ok(())
+            Ok(pushed?)
         }
         Ok(Err(_)) => Err(Stop::Row),
         Err(_) => Err(Stop::Memory),
+    }
+}
+
+/// Adds lines on copies of a fingerprint.
+fn push_fingerprint(made: &Fingerprint, out: &mut String) -> Result<(), AllocError> {
+    push_copy(made, "Fingerprint", out)?;
+    match made {
+        Fingerprint::C(parts) => push_copy(parts, "CParts", out),
+        Fingerprint::Rustc(parts, _) => push_copy(parts, "Parts", out),
     }
 }
 

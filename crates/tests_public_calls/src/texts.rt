@@ -1,7 +1,7 @@
 //! Calls on texts and bytes, and on what a configuration and a rustc are made of.
 
 use crate::copies::push_copy;
-use crate::lines::{push_answer, push_refusal};
+use crate::lines::{push_answer, push_refusal, push_words};
 use crate::stop::Stop;
 use base_files::{Listed, MemoryFiles, OsBytes};
 use ckeys_base::error::Error;
@@ -143,11 +143,23 @@ pub(crate) fn push_folders(alloc: Global, given: &[u8], out: &mut String) -> Res
         return Err(Stop::Row);
     };
     let folders = words(alloc, line)?;
-    let for_keys = KeyConfig::new(alloc, folders.as_slice(), Zone::utc(), true);
-    push_config(alloc, &for_keys, "KeyConfig", out)?;
-    drop(for_keys);
+    push_key_config(alloc, folders.as_slice(), out)?;
     let made = Config::new(alloc, folders.as_slice(), Zone::utc(), true, Some(7));
+    if let Ok(config) = &made {
+        push_words("folders:", config.keys.basedirs(), out)?;
+        writeln!(out, "limit {:?}", config.max_kept)?;
+    }
     push_config(alloc, &made, "Config", out)
+}
+
+/// Likewise for keys alone.
+fn push_key_config(alloc: Global, folders: &[OsBytes], out: &mut String) -> Result<(), Stop> {
+    let made = KeyConfig::new(alloc, folders, Zone::utc(), true);
+    if let Ok(config) = &made {
+        push_words("folders:", config.basedirs(), out)?;
+        writeln!(out, "direct {}", config.direct())?;
+    }
+    push_config(alloc, &made, "KeyConfig", out)
 }
 
 /// Adds a line on a copy of a configuration, or on why there is none.

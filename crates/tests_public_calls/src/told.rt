@@ -17,8 +17,10 @@ use wrap_replay_base::{
 /// How often a request is asked until each of its commands has a recorded answer.
 const STEPS: u8 = 4;
 
-/// The status of a rustc that tells nothing.
-const FAILED: i32 = 3;
+/// The statuses of a rustc that tells nothing of dependencies, and nothing of file names.
+const NO_DEPENDENCIES: i32 = 3;
+
+const NO_NAMES: i32 = 4;
 
 /// Adds what each request is answered, each in a session of its own: a compile of it ends with 0 and makes nothing.
 pub(crate) fn push_told(alloc: Global, scenario: Scenario, out: &mut String) -> Result<(), Stop> {
@@ -102,13 +104,13 @@ fn record_wanted(
         Step::Preprocess => tool.text = Some(text_for(alloc, words)?),
         Step::Compile => tool.outputs = Some(nothing_for(alloc, words)?),
         Step::DepInfo => {
-            let answer = answer_for(alloc, words, &texts.dep_info)?;
+            let answer = answer_for(alloc, words, &texts.dep_info, NO_DEPENDENCIES)?;
             if let Some(rustc) = &mut tool.rustc {
                 rustc.dep_info = Some(answer);
             }
         }
         Step::FileNames => {
-            let answer = answer_for(alloc, words, &texts.file_names)?;
+            let answer = answer_for(alloc, words, &texts.file_names, NO_NAMES)?;
             if let Some(rustc) = &mut tool.rustc {
                 rustc.file_names = Some(answer);
             }
@@ -148,13 +150,14 @@ fn nothing_for(alloc: Global, words: Listed<OsBytes>) -> Result<RecordedOutputs,
     })
 }
 
-/// rustc tells this, and fails where it is nothing. It runs in `/w`.
+/// rustc tells this, and ends with that status where it is nothing. It runs in `/w`.
 fn answer_for(
     alloc: Global,
     words: Listed<OsBytes>,
     text: &OsBytes,
+    failure: i32,
 ) -> Result<RecordedAnswer, AllocError> {
-    let status = if text.as_bytes().is_empty() { FAILED } else { 0 };
+    let status = if text.as_bytes().is_empty() { failure } else { 0 };
     Ok(RecordedAnswer {
         words,
         dir: OsBytes::from_slice(alloc, b"/w")?,

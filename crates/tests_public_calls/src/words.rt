@@ -32,7 +32,7 @@ pub(crate) fn push_opened(
     }
 }
 
-/// Adds the words that come, a line each.
+/// Adds a line with the words that come.
 fn push_items<I: Iterator<Item = Result<OsBytes, ParseFault>> + Drop>(
     alloc: Global,
     items: I,
@@ -41,7 +41,7 @@ fn push_items<I: Iterator<Item = Result<OsBytes, ParseFault>> + Drop>(
     for item in items {
         push_item(alloc, &item, out)?;
     }
-    Ok(())
+    Ok(out.push('\n')?)
 }
 
 /// Adds a word, or why there is none.
@@ -51,7 +51,7 @@ fn push_item(
     out: &mut String,
 ) -> Result<(), Stop> {
     match item {
-        Ok(word) => Ok(writeln!(out, "{word}")?),
+        Ok(word) => Ok(write!(out, " {word:?}")?),
         Err(fault) => push_refusal(alloc, fault, out),
     }
 }
