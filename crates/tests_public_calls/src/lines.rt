@@ -19,6 +19,14 @@ pub(crate) fn push_words(
     out.push('\n')
 }
 
+/// What refusals say for which no memory was left.
+fn is_of_memory(text: &str) -> bool {
+    matches!(
+        text,
+        "memory" | "no memory was left" | "memory allocation failed"
+    )
+}
+
 /// Adds a line with why there is no answer. Where that is want of memory, the calls end.
 pub(crate) fn push_refusal<E: Display>(
     alloc: Global,
@@ -26,7 +34,7 @@ pub(crate) fn push_refusal<E: Display>(
     out: &mut String,
 ) -> Result<(), Stop> {
     let text = format!(in alloc; "{refusal}")?;
-    if matches!(text.as_str(), "memory" | "no memory was left") {
+    if is_of_memory(text.as_str()) {
         return Err(Stop::Memory);
     }
     Ok(writeln!(out, "refused: {text}")?)

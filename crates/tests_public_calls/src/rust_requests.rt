@@ -58,7 +58,11 @@ fn push_asked(
     };
     let pretty = hasher.output_pretty(alloc)?;
     let color = hasher.color_mode();
-    writeln!(out, "{pretty} in {}; color {color:?}", hasher.language().as_str())?;
+    writeln!(
+        out,
+        "{pretty} in {}; color {color:?}",
+        hasher.language().as_str()
+    )?;
     push_copy(rust, "Rust", out)?;
     push_copy(parsed, "ParsedArguments", out)?;
     push_copy(&hasher, "RustHasher", out)?;

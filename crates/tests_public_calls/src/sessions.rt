@@ -2,94 +2,44 @@
 
 use crate::copies::push_copy;
 use crate::lines::push_refusal;
-use crate::scenarios::scripted;
+use crate::scenarios::{Asked, scripted};
 use crate::stop::Stop;
 use base_files::MemoryFiles;
-use ckeys::{EntryKey, PreprocessorCacheEntry};
 use ckeys_records::{Fault, KeyConfig, Preprocessor};
 use sccache_scenarios::{Scenario, ScenarioCall};
 use sccache_script_tool::{RetoldTool, ScriptTool};
 use sha2::Sha256;
 use std::alloc::{AllocError, Global};
 use std::num::NonZeroUsize;
-use wrap::Session;
-use wrap_base::store_key::{Pairs, StoreKey};
-use wrap_base::{Answer, Call, Config, MapStore, Output, Reason, Request};
+use wrap_base::{Answer, Call, Config, Output, Reason, Request};
 use wrap_fingerprints::{Fingerprint, Part};
 use wrap_uses::{Outcome, answer_within, run_step, why_missed};
 
-/// A session whose stores keep all.
-pub(crate) type Served =
-    Session<Sha256, MapStore<EntryKey, PreprocessorCacheEntry>, MapStore<StoreKey, Pairs>>;
-
-/// A session that was asked nothing.
-pub(crate) fn served(alloc: Global, config: Config) -> Served {
-    Served::new(alloc, config, MapStore::new(alloc), MapStore::new(alloc))
-}
-
 /// Adds names, paths and contents of outputs.
-pub(crate) fn push_outputs(outputs: &[Output], out: &mut String) -> Result<(), AllocError> {
+fn push_outputs(outputs: &[Output], out: &mut String) -> Result<(), AllocError> {
     for output in outputs {
-        write!(out, "; {} {} {:?}", output.name, output.path, output.contents)?;
+        write!(
+            out,
+            "; {} {} {:?}",
+            output.name, output.path, output.contents
+        )?;
     }
     out.push('\n')
 }
 
-/// Adds what comes of each request as a step, and how often a compile ran.
-pub(crate) fn push_steps(alloc: Global, scenario: Scenario, out: &mut String) -> Result<(), Stop> {
-    let Scenario {
-        session_config,
-        tool_config,
-        capacity: _,
-        calls,
-    } = scenario;
-    let mut session = served(alloc, session_config);
-    let pushed = push_steps_of(alloc, tool_config, calls, &mut session, out);
-    drop(session);
-    pushed
-}
-
-/// Likewise in this session.
-fn push_steps_of(
-    alloc: Global,
-    config: KeyConfig,
-    calls: Vec<ScenarioCall>,
-    session: &mut Served,
-    out: &mut String,
-) -> Result<(), Stop> {
-    let mut tool = scripted(alloc, config)?;
-    let mut pushed = Ok(());
-    for call in calls {
-        if pushed.is_ok() {
-            pushed = push_step(alloc, call, session, &mut tool, out);
-        }
-    }
-    drop(tool);
-    pushed
-}
-
 /// Adds what comes of this request as a step, and how often a compile ran up to its end.
-fn push_step(
+pub(crate) fn push_step(
     alloc: Global,
-    call: ScenarioCall,
-    session: &mut Served,
-    tool: &mut ScriptTool,
+    request: &Request,
+    files: &mut MemoryFiles,
+    asked: &mut Asked,
     out: &mut String,
 ) -> Result<(), Stop> {
-    let ScenarioCall {
-        request,
-        mut files,
-        crate_texts,
-        forget: _,
-    } = call;
-    tool.tell(crate_texts);
-    let outcome = run_step(session, &request, &mut files, tool);
-    drop(files);
-    drop(request);
+    let outcome = run_step(&mut asked.session, request, files, &mut asked.tool);
     let pushed = push_outcome(alloc, &outcome, out);
     drop(outcome);
     pushed?;
-    Ok(writeln!(out, "compiles {}", tool.ticks().compile)?)
+    Ok(writeln!(out, "compiles {}", asked.tool.ticks().compile)?)
 }
 
 /// Adds what came of a step.
@@ -224,84 +174,34 @@ fn push_output_copies(outputs: &[Output], out: &mut String) -> Result<(), AllocE
     Ok(())
 }
 
-/// Adds in which part each request differs from the first one, whose fingerprint is taken.
-pub(crate) fn push_missed(alloc: Global, scenario: Scenario, out: &mut String) -> Result<(), Stop> {
-    let Scenario {
-        session_config,
-        tool_config,
-        capacity: _,
-        calls,
-    } = scenario;
-    let mut session = served(alloc, session_config);
-    let pushed = push_missed_of(alloc, tool_config, calls, &mut session, out);
-    drop(session);
-    pushed
-}
-
-/// Likewise in this session.
-fn push_missed_of(
+/// Takes the fingerprint of this request, if none was taken yet, or adds in which part it differs from that.
+pub(crate) fn push_difference(
     alloc: Global,
-    config: KeyConfig,
-    calls: Vec<ScenarioCall>,
-    session: &Served,
+    request: &Request,
+    files: &mut MemoryFiles,
+    asked: &mut Asked,
     out: &mut String,
 ) -> Result<(), Stop> {
-    let mut tool = scripted(alloc, config)?;
-    let mut first = None;
-    let mut pushed = Ok(());
-    for call in calls {
-        if pushed.is_ok() {
-            pushed = push_difference(alloc, call, session, &mut tool, &mut first, out);
-        }
-    }
-    drop(first);
-    drop(tool);
-    pushed
-}
-
-/// Takes the fingerprint of this request, if none was taken yet, or adds where it differs from that.
-fn push_difference(
-    alloc: Global,
-    call: ScenarioCall,
-    session: &Served,
-    tool: &mut ScriptTool,
-    first: &mut Option<Fingerprint>,
-    out: &mut String,
-) -> Result<(), Stop> {
-    let ScenarioCall {
-        request,
-        mut files,
-        crate_texts,
-        forget: _,
-    } = call;
-    tool.tell(crate_texts);
-    let pushed = match first {
-        Some(first) => {
-            let why = why_missed(session, &request, &mut files, tool, first);
-            let pushed = push_why(alloc, &why, out);
-            drop(why);
-            pushed
-        }
-        None => take_first(session, &request, &mut files, tool, first, out),
+    let Some(first) = &asked.first else {
+        return take_first(request, files, asked, out);
     };
-    drop(files);
-    drop(request);
+    let why = why_missed(&asked.session, request, files, &mut asked.tool, first);
+    let pushed = push_why(alloc, &why, out);
+    drop(why);
     pushed
 }
 
 /// Takes the fingerprint of this request.
 fn take_first(
-    session: &Served,
     request: &Request,
     files: &mut MemoryFiles,
-    tool: &mut ScriptTool,
-    first: &mut Option<Fingerprint>,
+    asked: &mut Asked,
     out: &mut String,
 ) -> Result<(), Stop> {
-    match session.fingerprint(request, files, tool) {
+    match asked.session.fingerprint(request, files, &mut asked.tool) {
         Ok(Ok(made)) => {
             let pushed = push_fingerprint(&made, out);
-            *first = Some(made);
+            asked.first = Some(made);
             Ok(pushed?)
         }
         Ok(Err(_)) => Err(Stop::Row),

@@ -1,12 +1,12 @@
 //! Requests answered by a compiler that makes nothing and a rustc that fails: answers that are recorded as they are asked for.
 
-use crate::sessions::{Served, push_answer, served};
+use crate::scenarios::Served;
+use crate::sessions::push_answer;
 use crate::stop::Stop;
 use base_files::{Listed, MemoryFiles, OsBytes};
 use ckeys_records::output_name::OutputName;
 use ckeys_records::{Preprocessor, Printed, Step};
 use cmdlines_tables::CCompilerKind;
-use sccache_scenarios::{Scenario, ScenarioCall};
 use sccache_script_tool::CrateTexts;
 use std::alloc::{AllocError, Global};
 use wrap_base::{Compiled, Request};
@@ -22,48 +22,8 @@ const NO_DEPENDENCIES: i32 = 3;
 
 const NO_NAMES: i32 = 4;
 
-/// Adds what each request is answered, each in a session of its own: a compile of it ends with 0 and makes nothing.
-pub(crate) fn push_told(alloc: Global, scenario: Scenario, out: &mut String) -> Result<(), Stop> {
-    let Scenario {
-        session_config,
-        tool_config,
-        capacity: _,
-        calls,
-    } = scenario;
-    drop(tool_config);
-    let mut session = served(alloc, session_config);
-    let mut pushed = Ok(());
-    for call in calls {
-        if pushed.is_ok() {
-            pushed = push_call(alloc, call, &mut session, out);
-        }
-    }
-    drop(session);
-    pushed
-}
-
-/// Adds what this request is answered.
-fn push_call(
-    alloc: Global,
-    call: ScenarioCall,
-    session: &mut Served,
-    out: &mut String,
-) -> Result<(), Stop> {
-    let ScenarioCall {
-        request,
-        mut files,
-        crate_texts,
-        forget: _,
-    } = call;
-    let pushed = push_by(alloc, &request, &mut files, &crate_texts, session, out);
-    drop(crate_texts);
-    drop(files);
-    drop(request);
-    pushed
-}
-
 /// Adds what this request is answered once all is recorded, how many compiles ran for that, and how many pairs the store of outputs holds.
-fn push_by(
+pub(crate) fn push_told(
     alloc: Global,
     request: &Request,
     files: &mut MemoryFiles,
@@ -76,7 +36,9 @@ fn push_by(
     for _ in 0..STEPS {
         let answer = session.serve(request, files, &mut tool);
         drop(answer);
-        record_wanted(alloc, &mut tool, texts)?;
+        if !record_wanted(alloc, &mut tool, texts)? {
+            break;
+        }
     }
     let before = tool.ticks().compile;
     let answer = session.serve(request, files, &mut tool);
@@ -89,14 +51,14 @@ fn push_by(
     Ok(writeln!(out, "compiles {compiles}; held {held}")?)
 }
 
-/// Records an answer to the command that was asked for and had none.
+/// Records an answer to the command that was asked for and had none, if there is one.
 fn record_wanted(
     alloc: Global,
     tool: &mut ReplayTool,
     texts: &CrateTexts,
-) -> Result<(), AllocError> {
+) -> Result<bool, AllocError> {
     let Some(wanted) = tool.wanted.take() else {
-        return Ok(());
+        return Ok(false);
     };
     let Wanted { step, words, paths } = wanted;
     drop(paths);
@@ -117,7 +79,7 @@ fn record_wanted(
         }
         Step::ArchiveDigest => drop(words),
     }
-    Ok(())
+    Ok(true)
 }
 
 /// Gcc's preprocessor prints a declaration.
@@ -157,7 +119,11 @@ fn answer_for(
     text: &OsBytes,
     failure: i32,
 ) -> Result<RecordedAnswer, AllocError> {
-    let status = if text.as_bytes().is_empty() { failure } else { 0 };
+    let status = if text.as_bytes().is_empty() {
+        failure
+    } else {
+        0
+    };
     Ok(RecordedAnswer {
         words,
         dir: OsBytes::from_slice(alloc, b"/w")?,

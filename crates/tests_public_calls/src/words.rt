@@ -19,14 +19,26 @@ pub(crate) fn push_opened(
     let (dir, words) = (&request.dir, request.words.as_slice());
     match &request.compiler {
         Compiler::Gcc(_) | Compiler::Clang(_) => {
-            push_items(alloc, gcc::ExpandIncludeFile::new(alloc, dir, words, files), out)
+            push_items(
+                alloc,
+                gcc::ExpandIncludeFile::new(alloc, dir, words, files),
+                out,
+            )
         }
         Compiler::Msvc(_) => {
-            push_items(alloc, msvc::ExpandIncludeFile::new(alloc, dir, words, files), out)
+            push_items(
+                alloc,
+                msvc::ExpandIncludeFile::new(alloc, dir, words, files),
+                out,
+            )
         }
         Compiler::Diab(_) => push_items(alloc, ExpandAtArgs::new(alloc, dir, words, files), out),
         Compiler::Rust(_) => {
-            push_items(alloc, ExpandResponseFile::new(alloc, dir, words, files), out)
+            push_items(
+                alloc,
+                ExpandResponseFile::new(alloc, dir, words, files),
+                out,
+            )
         }
         Compiler::TaskingVX(_) => Err(Stop::Row),
     }
