@@ -51,7 +51,10 @@ use std::alloc::Global;
 pub fn make_calls(alloc: Global, rows: &[u8], out: &mut String) -> Result<(), Stop> {
     for row in rows.split(|byte| *byte == b'\n') {
         if !row.is_empty() {
-            let (name, given) = name_and_given(row)?;
+            let (name, given) = name_and_given(row);
+            let Ok(name) = str::from_utf8(name) else {
+                return Err(Stop::Row);
+            };
             writeln!(out, "{name}:")?;
             push_row(alloc, name, given, out)?;
         }
@@ -59,21 +62,17 @@ pub fn make_calls(alloc: Global, rows: &[u8], out: &mut String) -> Result<(), St
     Ok(())
 }
 
-/// What a row calls, and on what.
-fn name_and_given(row: &[u8]) -> Result<(&str, &[u8]), Stop> {
-    let mut given = row;
-    let mut length = 0;
-    while let [byte, rest @ ..] = given {
-        given = rest;
-        if *byte == b' ' {
-            break;
+/// What comes before the first space of a row, and what comes after it.
+fn name_and_given(row: &[u8]) -> (&[u8], &[u8]) {
+    for (end, byte) in row.iter().enumerate() {
+        if *byte != b' ' {
+            continue;
         }
-        length += 1;
+        if let Some((name, [_, given @ ..])) = row.split_at_checked(end) {
+            return (name, given);
+        }
     }
-    match str::from_utf8(&row[..length]) {
-        Ok(name) => Ok((name, given)),
-        Err(_) => Err(Stop::Row),
-    }
+    (row, &[])
 }
 
 /// Adds what the calls of that name gave.

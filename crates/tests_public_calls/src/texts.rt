@@ -26,14 +26,15 @@ struct OneByOne<'a> {
 
 impl<'a> Read for OneByOne<'a> {
     fn read(&mut self, buf: &mut [u8]) -> io::Result<usize> {
-        match (self.left, buf) {
-            ([byte, rest @ ..], [room, ..]) => {
-                *room = *byte;
-                self.left = rest;
-                Ok(1)
-            }
-            _ => Ok(0),
+        let [byte, rest @ ..] = self.left else {
+            return Ok(0);
+        };
+        if let [room, ..] = buf {
+            *room = *byte;
+            self.left = rest;
+            return Ok(1);
         }
+        Ok(0)
     }
 }
 
@@ -43,7 +44,10 @@ fn push_found(finder: &TimeMacroFinder, out: &mut String) -> Result<(), AllocErr
     let time = finder.found_time();
     let timestamp = finder.found_timestamp();
     let any = finder.found_time_macros();
-    writeln!(out, "date {date}, time {time}, timestamp {timestamp}, any {any}")
+    writeln!(
+        out,
+        "date {date}, time {time}, timestamp {timestamp}, any {any}"
+    )
 }
 
 /// Adds a digest and which macros were found, or why there is no digest.
@@ -64,9 +68,17 @@ fn push_digest(
 /// Adds the digest of a text and the macros in it: of a reader of the whole, of a reader of one byte a read, and of a finder that is shown a
 /// byte at a time.
 pub(crate) fn push_macros(alloc: Global, text: &[u8], out: &mut String) -> Result<(), Stop> {
-    push_digest(alloc, &reader_sync_time_macros::<Sha256, _>(alloc, text), out)?;
+    push_digest(
+        alloc,
+        &reader_sync_time_macros::<Sha256, _>(alloc, text),
+        out,
+    )?;
     let reader = OneByOne { left: text };
-    push_digest(alloc, &reader_sync_time_macros::<Sha256, _>(alloc, reader), out)?;
+    push_digest(
+        alloc,
+        &reader_sync_time_macros::<Sha256, _>(alloc, reader),
+        out,
+    )?;
     let mut finder = TimeMacroFinder::new();
     for byte in text {
         finder.find_time_macros(&[*byte]);
@@ -111,7 +123,11 @@ fn push_entry(
         return Err(Stop::Memory);
     }
     let text = hex::encode(alloc, written)?;
-    Ok(writeln!(out, "{} includes, written {text}", record.number_of_entries())?)
+    Ok(writeln!(
+        out,
+        "{} includes, written {text}",
+        record.number_of_entries()
+    )?)
 }
 
 /// Adds a result and its includes.
