@@ -301,6 +301,31 @@ remote_closing() {
     stop_servers
 }
 
+# Only 2xx is a success, also where curl asks, as through a proxy; and a token that is too long to be sent whole isn't sent.
+remote_proxied() {
+    local port status
+    local remote_networks=()
+    for status in 200 302; do
+        port=$(free_port)
+        serve python3 "$top/lib/remote/closing.py" "$port" "$status"
+        wait_for_port "$port"
+        local -x http_proxy=http://127.0.0.1:$port
+        make_project
+        GULMAAT_REMOTE=http://elsewhere.invalid$patient build_on "a proxy, $status, one" one
+        GULMAAT_REMOTE=http://elsewhere.invalid$patient build_on "a proxy, $status, two" two
+        case $status in
+            200) is "a proxy: all were there" asked two 6 0 0 0 ;;
+            302) is "a redirection is no success" [ "$(counts_of two remote_storage_hit)" = 0 ] ;;
+        esac
+        [ "$status" = 302 ] || {
+            forget two
+            GULMAAT_REMOTE="http://elsewhere.invalid|bearer-token=$(printf 'x%.0s' $(seq 5000))$patient" build_on "a long token" two 1
+            is "a token that is too long isn't sent" asked two 0 0 1 0
+        }
+        stop_servers
+    done
+}
+
 # ---- What attributes say.
 
 remote_attributes() {
@@ -624,6 +649,7 @@ remote() {
     remote_keys
     remote_bazel
     remote_closing
+    remote_proxied
     remote_helpers
     if command -v redis-server redis-cli >/dev/null; then remote_redis; remote_redis_faults; else echo "remote: redis-server isn't there: left out"; fi
     if command -v nginx >/dev/null; then remote_nginx; remote_nginx_faults; else echo "remote: nginx isn't there: left out"; fi

@@ -1,9 +1,12 @@
-"""closing.py PORT: an HTTP server of this machine alone that keeps what is put there, and closes each connection after one answer without saying so."""
+"""closing.py PORT [STATUS]: an HTTP server of this machine alone, or a proxy in front of none, that keeps what is put there, gives it with that status
+(200), and closes each connection after one answer without saying so.
+"""
 
 import http.server
 import sys
 
 kept = {}
+status = int(sys.argv[2]) if len(sys.argv) > 2 else 200
 
 
 class Closing(http.server.BaseHTTPRequestHandler):
@@ -24,12 +27,12 @@ class Closing(http.server.BaseHTTPRequestHandler):
 
     def do_HEAD(self):
         """Whether something is kept there."""
-        self.answer(200 if self.path in kept else 404)
+        self.answer(status if self.path in kept else 404)
 
     def do_GET(self):
         """What is kept there."""
         found = kept.get(self.path)
-        self.wfile.write(self.answer(404) if found is None else self.answer(200, found))
+        self.wfile.write(self.answer(404) if found is None else self.answer(status, found))
 
     def do_PUT(self):
         """Keeps what comes."""

@@ -1,5 +1,6 @@
 //! Entry keys, as hashlib computes them of the framed parts.
 
+use crate::door::key_over;
 use crate::scene::{Scene, digests};
 use ckeys_include_records::entry_key::{EntryKey, entry_key};
 use ckeys_include_records::{Asker, SeenInput};
@@ -14,12 +15,24 @@ fn key_of(alloc: Global, asker: &Asker, input: &SeenInput) -> Result<Option<Entr
     entry_key::<Sha256>(alloc, asker, extra.as_slice(), input)
 }
 
+/// Whether the key alone is this one.
+fn has_key(alloc: Global, asker: &Asker, input: &SeenInput, key: &str) -> Result<bool, AllocError> {
+    let extra = digests(alloc)?;
+    Ok(
+        match key_over::<Sha256>(alloc, asker, extra.as_slice(), input)? {
+            Some(found) => found.as_str() == key,
+            None => false,
+        },
+    )
+}
+
 /// Whether it has this identity and this key.
 fn has(alloc: Global, asker: &Asker, input: &SeenInput, identity: &str, key: &str) -> bool {
     match key_of(alloc, asker, input) {
         Ok(Some(found)) => {
             found.identity.as_bytes() == identity.as_bytes()
                 && found.key.as_bytes() == key.as_bytes()
+                && matches!(has_key(alloc, asker, input, key), Ok(true))
         }
         _ => false,
     }

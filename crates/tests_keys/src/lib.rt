@@ -11,6 +11,8 @@ mod call_list;
 mod days;
 mod door;
 #[cfg(test)]
+mod door_calls;
+#[cfg(test)]
 mod entry_key;
 #[cfg(test)]
 mod fault;
