@@ -341,7 +341,7 @@ host_deaths() {
     is "$cc: a signal while a text is printed: it ended" [ ! -e "/proc/$(cat text)" ]
     is "$cc: a signal while a text is printed: no object" [ ! -e it.o ]
     # A program whose question is too long to be read: it still writes where the host waits for its end.
-    printf 'printf "\\000\\000\\000\\020\\000\\000\\000\\000"; exec head -c 1000000 /dev/zero\n' | stand_in talkative
+    printf 'printf "\\000\\000\\000\\020\\000\\000\\000\\000"; exec head -c 1000000 /dev/zero 2>/dev/null\n' | stand_in talkative
     GULMAAT_BIN=$PWD/talkative as_alone "$cc: a question that is too long" 1 "$cc" -Wall -c it.c -o it.o
     # A program that never ends.
     printf 'echo $$ >program; exec sleep 300\n' | stand_in never
