@@ -74,6 +74,15 @@ fn push_turn(turn: &Turn, whole: &Turn, text: &mut String) -> Result<u64, AllocE
     Ok(u64::from(before.records.kept && !after.records.kept))
 }
 
+/// Whether a request that was served again is answered by the record that it put before memory ran out, where it printed its text in the
+/// whole run.
+fn is_of_own_record(turn: &Turn, whole: &Turn) -> bool {
+    match &turn.again {
+        Some(again) => { matches!(again.word, "direct") && matches!(whole.answer.word, "stored") }
+        None => false,
+    }
+}
+
 /// Adds lines where the run's requests aren't answered as those of the whole run, where more than one allocation was refused, and where
 /// outputs come from elsewhere although all was kept.
 fn push_compared(run: &Run, whole: &Run, text: &mut String) -> Result<(), AllocError> {
@@ -89,7 +98,7 @@ fn push_compared(run: &Run, whole: &Run, text: &mut String) -> Result<(), AllocE
             break;
         };
         refused = refused.saturating_add(push_turn(turn, due, text)?);
-        let same = last_of(turn).word == due.answer.word;
+        let same = last_of(turn).word == due.answer.word || is_of_own_record(turn, due);
         push_unless(same || !all_kept, "the same word where all is kept", text)?;
     }
     push_unless(refused <= 1, "one refusal", text)

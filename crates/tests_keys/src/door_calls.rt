@@ -47,7 +47,7 @@ fn calls_by_the_door_alone(rt: HostRuntime) -> Result<(), Fail> {
     checks.holds(matches!(is_copied, Ok(true)), "a hasher is copied");
     checks.holds(matches!(has_key(alloc, "k"), Ok(true)), "a result's key");
     checks.holds(
-        matches!(first_name(b"int x;\n# 1 \"a.h\"\n"), Some(name) if name == b"a.h"),
+        matches!(first_name(b"int x;\n# 1 \"a.h\"\n"), Some(name) if name == b"a.h".as_slice()),
         "a marker's name",
     );
     checks.holds(is_badly_escaped(alloc, b"\\q"), "a bad escape");
