@@ -585,6 +585,6 @@ each_says digest_of max_kept settings files tool [] new results shelf shelf_new 
 each_says digest_of max_kept settings files tool (b ∷ old) [] results shelf shelf_new said run = tt
 each_says digest_of max_kept settings files tool (b ∷ old) (e ∷ new) [] shelf shelf_new said run = tt
 each_says digest_of max_kept settings files tool (b ∷ old) (e ∷ new) (r ∷ results) shelf shelf_new said run = (
-    says_own (account_at (tool.meaning b.tool) (files.tree b.files) settings b.request) (FilesFail files b.files e.files) (ToolFails tool b.tool e.tool) r said.0.says run.3.fine run.3.compiled,
-    each_says digest_of max_kept settings files tool old new results run.1 shelf_new said.1 run.4,
-  )
+  says_own (account_at (tool.meaning b.tool) (files.tree b.files) settings b.request) (FilesFail files b.files e.files) (ToolFails tool b.tool e.tool) r said.0.says run.3.fine run.3.compiled,
+  each_says digest_of max_kept settings files tool old new results run.1 shelf_new said.1 run.4,
+)
