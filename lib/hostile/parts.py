@@ -16,6 +16,8 @@ import running
 TOP = Path(__file__).resolve().parents[2]
 # How many words or lines are made of an input at most.
 MOST_MADE = 1 << 20
+# What it costs to copy an argument besides its bytes, as so many bytes of a text that is cut.
+ARGUMENT = 32
 # How many pairs are looked at in the time that one byte takes.
 PAIRS_A_BYTE = 256
 # Reasons hold the words of requests as they are, so a line with a reason may go on after a line end.
@@ -76,17 +78,19 @@ def made_of_request(request):
         if held is None and isinstance(file, dict):
             held = mutations.as_bytes(file.get("text"))
         texts[name.rsplit("/", 1)[-1].encode(errors="surrogatepass")] = held or b""
-    size = {name: len(text) for name, text in texts.items()}
+    # A file is read once. Each time that it is named its arguments are copied or, where that costs no less, its text is cut again.
+    cost = {name: min(len(text), sum(ARGUMENT + len(argument) for argument in text.split())) for name, text in texts.items()}
+    size = dict(cost)
     # Each round opens the response files once more; a chain is no longer than there are files.
     named = {name: {other: text.count(other) for other in texts if other} if b"@" in text else {} for name, text in texts.items()}
     for _ in texts:
-        size = {name: len(texts[name]) + sum(size[other] * count for other, count in named[name].items()) for name in texts}
+        size = {name: cost[name] + sum(size[other] * count for other, count in named[name].items()) for name in texts}
         if max(size.values(), default=0) > MOST_MADE:
             return MOST_MADE + 1
     words = request.get("words")
     count = len(words) + 1 if isinstance(words, list) else 1
     included = sum(text.count(b"#include") for text in texts.values()) * max(map(len, texts.values()), default=0)
-    return count * sum(size.values()) + included
+    return count * sum(size.values()) + sum(map(len, texts.values())) + included
 
 
 def texts_in(value):
