@@ -4,9 +4,8 @@
 //! copies it; and it makes trees, and looks into include records, makes keys, looks into stores, and reads and writes texts on dependencies
 //! and bytes of rustc's keys: as often as it is asked. It prints one line of what the last call gave.
 //!
-//! With the argument `rows` alone it makes calls that take no memory, by rows that it reads from standard input, and with `calls` alone those
-//! that `tests_public_calls` makes for such rows. With `hostile`, and perhaps `growths`, `record` or `key` after it, it does what
-//! `tests_hostile_runs` does with standard input.
+//! With the argument `rows` alone it makes calls that take no memory, by rows that it reads from standard input. With `hostile`, and perhaps
+//! `growths`, `record` or `key` after it, it does what `tests_hostile_runs` does with standard input.
 #![tactic(auto)]
 
 ghost use Rattle.std.specs.Prelude.{◌≡◌, IfOk, length};
@@ -40,11 +39,10 @@ use rustc_texts::TextFault;
 use sha2::Sha256;
 use std::alloc::{AllocError, AllocFailed, Global};
 use std::fmt::Display;
-use std::io::{ErrorKind, Read, Write};
+use std::io::ErrorKind;
 use std::process::ExitCode;
 use std::rt::{Env, Files};
 use std::{env, fs, io};
-use tests_public_calls::Stop;
 use thiserror::Error;
 
 /// The status of a program that couldn't run.
@@ -54,7 +52,7 @@ const FAILED: u8 = 2;
 #[derive(Debug, Drop, Error)]
 enum Fault {
     /// The words aren't those that are wanted.
-    #[error("tests_calls: wanted are `rows`, `calls`, `hostile`, or a work, a number of repeats, a file, a number of files, results or pairs, or a compiler, and folders, a file of names or a compiler")]
+    #[error("tests_calls: wanted are `rows`, `hostile`, or a work, a number of repeats, a file, a number of files, results or pairs, or a compiler, and folders, a file of names or a compiler")]
     Words,
     /// The file can't be read.
     #[error("tests_calls: the file cannot be read")]
@@ -108,15 +106,6 @@ impl From<TextFault> for Fault {
         match fault {
             TextFault::NoRule => Fault::File,
             TextFault::Memory => Fault::Memory,
-        }
-    }
-}
-
-impl From<Stop> for Fault {
-    fn from(stop: Stop) -> Fault {
-        match stop {
-            Stop::Row => Fault::Row,
-            Stop::Memory => Fault::Memory,
         }
     }
 }
@@ -197,26 +186,12 @@ fn do_words<R: Print + Eprint + Input + Files + AllocGlobal>(
 ) -> Result<(), Fault> {
     match words {
         [word] if matches!(word.as_str(), "rows") => make_calls(rt),
-        [word] if matches!(word.as_str(), "calls") => make_public_calls(rt),
         [work, repeats, given, others @ ..] => {
             let line = line_for(rt, work, number_of(repeats)?, given, others)?;
             println!(rt; "{line}").map_err(|_error: io::Error| Fault::Output)
         }
         _ => Err(Fault::Words),
     }
-}
-
-/// Makes the public calls of the rows of standard input, and prints what they gave once all are made.
-fn make_public_calls<R: Print + Input + AllocGlobal>(rt: &R) -> Result<(), Fault> {
-    let mut rows = Vec::new(rt.alloc());
-    rt.reader()
-        .read_to_end(&mut rows)
-        .map_err(|error| fault_of(&error, Fault::Input))?;
-    let mut out = String::new(rt.alloc());
-    tests_public_calls::make_calls(rt.alloc(), rows.as_slice(), &mut out)?;
-    io::writer(rt)
-        .write_all(out.as_bytes())
-        .map_err(|error| fault_of(&error, Fault::Output))
 }
 
 /// Does the work so often on the file of that name, or on a chain of that number of files, and gives its line.
