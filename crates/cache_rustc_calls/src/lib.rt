@@ -3,5 +3,6 @@
 
 mod deciding;
 mod finishing;
+mod rules;
 
 pub use deciding::{RustcEnd, RustcWhat, decide_on_rustc};
