@@ -1,12 +1,13 @@
 //! Logs of calls: a line each.
 
+use cache_disk::shown;
 use cache_host::{CommandLine, HostError};
 use std::fs::{File, OpenOptions};
 use std::io::Write;
 use std::rt::Files;
 
 /// Appends a line to a log, which is made where it isn't there: the second in which the call began, what it came to, the command, and a
-/// remark in brackets, where there is one.
+/// remark in brackets, where there is one. Control characters are written out: a name with a line end makes no second line.
 pub fn log<R: Files<File = File> + AllocGlobal>(
     rt: &R,
     line: &CommandLine,
@@ -23,6 +24,7 @@ pub fn log<R: Files<File = File> + AllocGlobal>(
     if !remark.is_empty() {
         write!(text, " ({remark})")?;
     }
+    let mut text = shown(rt.alloc(), text.as_str())?;
     text.push('\n')?;
     let mut options = OpenOptions::new();
     options.append(true).create(true);
