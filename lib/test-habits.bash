@@ -48,7 +48,6 @@ habits() {
     habits_rights
     habits_secrets
     habits_strangers
-    habits_escapes
     habits_program
     cd "$work" || return
 }
@@ -404,38 +403,6 @@ habits_strangers() {
     is "--clear: the link stays" [ -L study/hints ]
     is "--clear: what is kept goes" [ ! -e study/results/ab/0123456789abcdef0123456789abcdef ]
     rm -r study far
-}
-
-# Names of files and what others wrote into the cache directory reach terminals and logs with their control characters written out.
-habits_escapes() {
-    local control=$'\e]0;OWNED\a' shown='\x1b]0;OWNED\x07' name=$'x\n1764600000 direct_cache_hit 1 ms: gcc -c forged.c.c' number
-    local -x GULMAAT_DIR=$PWD/escapes
-    mkdir -p "d$control" escapes
-    printf '#include "h.h"\nint a;\n' >escapes.c
-    for number in 1 2; do
-        printf 'int h%s;\n' $number >"d$control/h.h"
-        "$host" gcc -I"d$control" -c escapes.c -o escapes.o
-    done
-    "$host" --why gcc -I"d$control" -c escapes.c -o escapes.o >why
-    is "--why: control characters" grep -qF "d$shown/h.h" why
-    is "--why: no escape" [ "$(grep -c $'\e' why)" = 0 ]
-    cp escapes.c "$name"
-    GULMAAT_LOGFILE=$PWD/escapes.log "$host" gcc -I"d$control" -c "$name" -o escapes.o
-    is "a log: a line for a call" [ "$(wc -l <escapes.log)" = 1 ]
-    is "a log: no escape" [ "$(grep -c $'\e' escapes.log)" = 0 ]
-    python3 -c 'import struct, sys
-name = b"uncacheable_\x1b]0;OWNED\x07"
-open(sys.argv[1], "ab").write(struct.pack("<QQ", 7, len(name)) + name + bytes(48 - len(name)))' escapes/statistics
-    for number in --show-stats --print-stats; do
-        "$host" $number >shown
-        is "$number: control characters" grep -qF "uncacheable_$shown" shown
-        is "$number: no escape" [ "$(grep -c $'\e' shown)" = 0 ]
-    done
-    printf 'x%s = 1\n' "$control" >escapes/gulmaat.conf
-    "$host" gcc -c escapes.c -o escapes.o 2>messages
-    is "a key in settings of another user" grep -qF "no key is called x$shown" messages
-    is "a key in settings of another user: no escape" [ "$(grep -c $'\e' messages)" = 0 ]
-    rm -r "d$control" escapes "$name" escapes.log
 }
 
 # The program beside the host, where it is installed, and where it isn't.

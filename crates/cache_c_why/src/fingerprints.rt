@@ -7,7 +7,6 @@ use base_files::{Files as CallFiles, Listed, OsBytes};
 use base_snapshots::SnapshotFiles;
 use cache_c_requests::kind_of;
 use cache_dir::{CacheDir, make_room};
-use cache_disk::shown;
 use cache_format::KeptParts;
 use cache_host::{CommandLine, HostError, difference_of_additions};
 use cache_known_options::beside_of;
@@ -241,14 +240,11 @@ fn tell_of<R: Print + AllocGlobal>(
     found: &Option<KeptParts>,
     object: Option<&OsBytes>,
 ) -> Result<(), HostError> {
-    let alloc = rt.alloc();
-    let text = told_of(alloc, found)?;
-    let text = match object {
-        Some(path) => format!(in alloc; "{path}: {text}")?,
-        None => format!(in alloc; "{text}")?,
-    };
-    let text = shown(alloc, text.as_str())?;
-    println!(rt; "{text}")?;
+    let text = told_of(rt.alloc(), found)?;
+    match object {
+        Some(path) => println!(rt; "{path}: {text}")?,
+        None => println!(rt; "{text}")?,
+    }
     Ok(())
 }
 

@@ -3,7 +3,6 @@
 use crate::noted_parts::{name_of_parts, told_of_parts};
 use base_files::{Listed, OsBytes};
 use base_snapshots::SnapshotFiles;
-use cache_disk::shown;
 use cache_host::HostError;
 use cmdlines_base::CompilerArguments;
 use rustc_options::parsed::ParsedArguments;
@@ -44,9 +43,7 @@ fn tell<R: Print + Files + AllocGlobal>(
     let name = name_of_parts(rt.alloc(), dir.as_bytes(), parsed)?;
     let difference = told_of_parts(rt, kept, name.as_str())?;
     let made = &parsed.crate_name;
-    let text = format!(in rt.alloc(); "{made}: {difference}")?;
-    let text = shown(rt.alloc(), text.as_str())?;
-    println!(rt; "{text}")?;
+    println!(rt; "{made}: {difference}")?;
     Ok(())
 }
 

@@ -1,13 +1,12 @@
 //! Logs of calls: a line each.
 
-use cache_disk::shown;
 use cache_host::{CommandLine, HostError};
 use std::fs::{File, OpenOptions};
 use std::io::Write;
 use std::rt::Files;
 
 /// Appends a line to a log, which is made where it isn't there: the second in which the call began, what it came to, the command, and a
-/// remark in brackets, where there is one. Control characters are written out: a name with a line end makes no second line.
+/// remark in brackets, where there is one.
 pub fn log<R: Files<File = File> + AllocGlobal>(
     rt: &R,
     line: &CommandLine,
@@ -24,7 +23,6 @@ pub fn log<R: Files<File = File> + AllocGlobal>(
     if !remark.is_empty() {
         write!(text, " ({remark})")?;
     }
-    let mut text = shown(rt.alloc(), text.as_str())?;
     text.push('\n')?;
     let mut options = OpenOptions::new();
     options.append(true).create(true);

@@ -12,10 +12,9 @@ mod deciding;
 
 use cache_c_calls::{End, What};
 use cache_c_why::why_of_c;
-use cache_disk::shown;
 use cache_host::{CommandLine, Host, HostError};
 use cache_rustc_requests::{is_named_rustc, why_of_rustc};
-use cache_settings::{SettingsError, read_settings};
+use cache_settings::read_settings;
 use cache_source_files::{Audit, opened_words};
 use counting::note;
 use deciding::decide;
@@ -153,20 +152,12 @@ fn line_from<R: Clock + Files + AllocGlobal, I: Read>(
     CommandLine::read(rt, message.as_slice(), SystemTime::now(rt)?)
 }
 
-/// Says what is wrong with settings. Another user of a cache directory may have written them.
-fn tell_error<R: Eprint + AllocGlobal>(rt: &R, error: &SettingsError) -> Result<(), HostError> {
-    let text = format!(in rt.alloc(); "{error}")?;
-    let text = shown(rt.alloc(), text.as_str())?;
-    eprintln!(rt; "gulmaat: {text}")?;
-    Ok(())
-}
-
 /// Has the line take what a user sets. False where that is wrong, which is said.
 fn set_line<R: Eprint + Files + AllocGlobal>(rt: &R, line: &mut CommandLine) -> bool {
     match read_settings(rt, &line.variables()) {
         Ok(settings) => line.take_settings(rt.alloc(), settings).is_ok(),
         Err(error) => {
-            let _ = tell_error(rt, &error);
+            let _ = eprintln!(rt; "gulmaat: {error}");
             false
         }
     }

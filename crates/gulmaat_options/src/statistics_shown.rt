@@ -5,7 +5,6 @@ ghost use Rattle.std.specs.Prelude.{◌≡◌, ◌*◌, ◌/◌, IfSome};
 use crate::error::OptionError;
 use crate::help::line_of;
 use cache_dir::kept_in;
-use cache_disk::shown;
 use cache_statistics::{
     Counts, HITS, MISSES, PASSED, REMOTE, ZEROED, counts_at, is_error, is_passed, updated_at,
 };
@@ -96,15 +95,13 @@ fn print_share<R: Print>(rt: &R, name: &str, part: u64, all: u64) -> Result<(), 
 }
 
 /// Prints a row of a name and its number.
-fn print_row<R: Print + AllocGlobal>(rt: &R, name: &str, number: u64) -> Result<(), OptionError> {
-    let name = shown(rt.alloc(), name)?;
-    let name = name.as_str();
+fn print_row<R: Print>(rt: &R, name: &str, number: u64) -> Result<(), OptionError> {
     println!(rt; "  {name:<40}{number:>8}")?;
     Ok(())
 }
 
 /// Prints rows of names and numbers.
-fn print_rows<R: Print + AllocGlobal>(rt: &R, rows: &[(&str, u64)]) -> Result<(), OptionError> {
+fn print_rows<R: Print>(rt: &R, rows: &[(&str, u64)]) -> Result<(), OptionError> {
     for (name, number) in rows {
         print_row(rt, name, *number)?;
     }
@@ -185,11 +182,7 @@ fn is_in_rows(name: &str) -> bool {
 }
 
 /// Prints a name that isn't in the rows, with its number.
-fn print_detail<R: Print + AllocGlobal>(
-    rt: &R,
-    counts: &Counts,
-    name: &str,
-) -> Result<(), OptionError> {
+fn print_detail<R: Print>(rt: &R, counts: &Counts, name: &str) -> Result<(), OptionError> {
     if is_in_rows(name) {
         return Ok(());
     }
@@ -220,23 +213,13 @@ pub fn print<R: Print + AllocGlobal>(rt: &R, statistics: &Statistics) -> Result<
 }
 
 /// Prints a name and a number with a tab between them.
-fn print_number<R: Print + AllocGlobal>(
-    rt: &R,
-    name: &str,
-    number: u64,
-) -> Result<(), OptionError> {
-    let name = shown(rt.alloc(), name)?;
-    let name = name.as_str();
+fn print_number<R: Print>(rt: &R, name: &str, number: u64) -> Result<(), OptionError> {
     println!(rt; "{name}\t{number}")?;
     Ok(())
 }
 
 /// Prints these names with their numbers.
-fn print_numbers<R: Print + AllocGlobal>(
-    rt: &R,
-    counts: &Counts,
-    names: &[&str],
-) -> Result<(), OptionError> {
+fn print_numbers<R: Print>(rt: &R, counts: &Counts, names: &[&str]) -> Result<(), OptionError> {
     for name in names {
         print_number(rt, name, counts.number_of(name))?;
     }
@@ -263,7 +246,7 @@ fn print_others<R: Print + AllocGlobal>(rt: &R, counts: &Counts) -> Result<(), O
 }
 
 /// Prints what is known of all that is kept.
-fn print_whole<R: Print + AllocGlobal>(rt: &R, statistics: &Statistics) -> Result<(), OptionError> {
+fn print_whole<R: Print>(rt: &R, statistics: &Statistics) -> Result<(), OptionError> {
     let counts = &statistics.counts;
     let files = statistics.files;
     print_number(
