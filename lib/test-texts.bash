@@ -136,21 +136,6 @@ own_files() {
     text_case "$cc" "a path of a process" 'const char *path = "/proc/self/maps", *other = "/dev/stdin";' 1 1
 }
 
-# Pragmas by which GCC compiles with macros that its preprocessor hasn't: the text has the other branch.
-changed_macros() {
-    local pragma macro value
-    for pragma in 'optimize("O3")|__OPTIMIZE__' 'target("avx2")|__AVX2__' 'optimize("fast-math")|__FAST_MATH__'; do
-        macro=${pragma#*|}
-        pragma=${pragma%|*}
-        for value in 1 3; do
-            text_case gcc "#pragma GCC $pragma, $value" "#pragma GCC $pragma"$'\n'"#ifdef $macro"$'\n'"int v = $value;"$'\n#else\nint v = 2;\n#endif' 0 0
-            text_case gcc "_Pragma of $pragma, $value" "_Pragma(\"GCC ${pragma//\"/\\\"}\")"$'\n'"#ifdef $macro"$'\n'"int v = $value;"$'\n#else\nint v = 2;\n#endif' 0 0
-        done
-    done
-    # Headers of the compiler have such pragmas too, and nothing there hangs on these macros.
-    text_case gcc "vectors" '#include <immintrin.h>' 1 1
-}
-
 texts() {
     local cc=$1 words dir=$work/texts-$1 directive
     local -x TZ
@@ -167,7 +152,6 @@ texts() {
         '"nop\n\t.Include \"s.inc\""'; do
         text_case "$cc" "$directive" "asm($directive);" 0 0
     done
-    [ "$cc" != gcc ] || changed_macros
     # Members and paths of such a name, which take in nothing.
     text_case "$cc" "a member" 'struct o { int include, incbin; } o = { .include = 1, .incbin = 2 }; int f(void) { return o.include; }' 1 1
     text_case "$cc" "a path" 'const char *path = "parts.include/x.h";' 1 1

@@ -9,7 +9,7 @@ use cache_host::{CommandLine, HostError};
 use cache_known_options::PrefixMaps;
 use cache_settings::Key;
 use cache_source_files::{digest_of_list, has_precompiled};
-use cache_unkept_texts::{changes_macros, takes_files, tells_time};
+use cache_unkept_texts::{takes_files, tells_time};
 use cache_written_lines::{Asked, NamedFiles, Sources, digest_asked, with_plain_names};
 use cmdlines_tables::CCompilerKind;
 use std::alloc::Global;
@@ -28,9 +28,8 @@ fn push_digest(text: &mut Vec<u8>, name: &str, digest: &[u8]) -> Result<(), Host
 }
 
 /// Refuses a text by which what is made of it can't be found again.
-fn refuse_text(kind: CCompilerKind, line: &CommandLine, text: &[u8]) -> Result<(), HostError> {
-    let has_other_macros = kind == CCompilerKind::Gcc && changes_macros(text);
-    if has_other_macros || takes_files(text) {
+fn refuse_text(line: &CommandLine, text: &[u8]) -> Result<(), HostError> {
+    if takes_files(text) {
         return Err(HostError::TakesFiles);
     }
     if tells_time(text, line.second(), line.zone.as_str()) {
@@ -90,7 +89,7 @@ impl Known {
     ) -> Result<Vec<u8>, HostError> {
         let alloc = rt.alloc();
         let text = self.printed_text(rt, line)?;
-        refuse_text(self.kind, line, text.as_slice())?;
+        refuse_text(line, text.as_slice())?;
         if text.is_empty() {
             return Ok(text);
         }
