@@ -58,22 +58,6 @@ line_calls() {
     line_call "$name" "$others" "$cc" -g -O2 -Wall -MD
 }
 
-# Warnings that hang on all bytes between tokens: comments in any letters, directives and comments by their columns.
-line_bytes() {
-    local comment words
-    local switch='int f(int a) { switch (a) {\ncase 1:\n  a++;\n  %s\ncase 2: return 3; }\n  return a; }\n'
-    local statement='int f(int a) {\n    if (a)\n        a++;\n%s\n        a++;\n    return a;\n}\n'
-    local pragma='#pragma GCC diagnostic error "-Wimplicit-fallthrough=2"\n'
-    for comment in '/* and on */' '/* FALL through */' '/* FaLlThRu */'; do
-        for words in "-Werror -Wimplicit-fallthrough=1" "-Werror -Wimplicit-fallthrough=2" -Werror=implicit-fallthrough=2; do
-            line_change "a comment $comment goes" "${switch/\%s/$comment}" "${switch/\%s/}" gcc $words
-        done
-        line_change "a comment $comment goes, a pragma" "$pragma${switch/\%s/$comment}" "$pragma${switch/\%s/}" gcc
-    done
-    line_change "a directive moves" "${statement/\%s/#define Q}" "${statement/\%s/        #define Q}" gcc -Werror -Wmisleading-indentation
-    line_change "a comment moves" "${statement/\%s//* left */}" "${statement/\%s/        /* right */}" gcc -Werror=misleading-indentation
-}
-
 # A call on a source, and then on another one with the same text: each time it does the same as the compiler alone.
 line_change() {
     local name=$1 before=$2 after=$3 contents status
@@ -160,7 +144,6 @@ lines() {
     GULMAAT_AUDIT=0 GULMAAT_SLOPPINESS=lines "$host" "$cc" -g -c lines.c -o it.o
     is "$cc: lines don't count" since 1 1
     line_changes "$cc"
-    [ "$cc" != gcc ] || line_bytes
     cd "$work" || return
 }
 

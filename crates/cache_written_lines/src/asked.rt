@@ -35,17 +35,6 @@ const OF_LINES: [&str; 13] = [
 /// Words under which an object has the places of all that a source has, also of comments and of what is left out.
 const OF_CONTENTS: [&str; 1] = ["-fcoverage-mapping"];
 
-/// What the names of warnings begin with that hang on all that is between tokens: comments of any kind, directives, and pragmas that no text shows.
-const OF_ALL: [&str; 4] = [
-    "implicit-fallthrough=1",
-    "implicit-fallthrough=2",
-    "misleading-indentation",
-    "unsafe-buffer-usage",
-];
-
-/// What comes before the name of a warning in a word.
-const WARNING: [&str; 2] = ["-Werror=", "-W"];
-
 /// What words begin with that hand something on to other programs.
 const HANDED_ON: [&str; 3] = ["-Wa,", "-Wl,", "-Wp,"];
 
@@ -123,20 +112,9 @@ fn asks_clang_for_contents(word: &[u8]) -> bool {
     is_debug(word) || begins_with(word, &OF_COMMENTS) || begins_with(word, &OF_PLACES)
 }
 
-/// Whether a word turns on a warning that hangs on all bytes of the sources.
-fn warns_by_all(word: &[u8]) -> bool {
-    for front in WARNING {
-        if let Some(name) = word.strip_prefix(front.as_bytes()) {
-            return begins_with(name, &OF_ALL);
-        }
-    }
-    false
-}
-
 /// What one word asks for.
 fn asked_by_word(is_clang: bool, word: &[u8]) -> Asked {
-    let is_of_all = begins_with(word, &OF_CONTENTS) || warns_by_all(word);
-    if is_of_all || is_clang && asks_clang_for_contents(word) {
+    if is_clang && asks_clang_for_contents(word) || begins_with(word, &OF_CONTENTS) {
         return Asked::Contents;
     }
     if begins_with(word, &HANDED_ON) {
@@ -187,11 +165,7 @@ impl Asked {
     /// What a command to a compiler of that kind with these words asks for, whose text this is.
     pub fn by(kind: CCompilerKind, words: &[OsBytes], text: &[u8]) -> Asked {
         let is_clang = matches!(kind, CCompilerKind::Clang);
-        let asked = Asked::by_words(is_clang, words);
-        if asked == Asked::Contents || has_after(text, OF_WARNINGS, &OF_ALL) {
-            return Asked::Contents;
-        }
-        match asked {
+        match Asked::by_words(is_clang, words) {
             Asked::Nothing => asked_by_text(is_clang, text),
             Asked::Lines if is_clang && has_after(text, OF_WARNINGS, &OF_COMMENTS_BY_PRAGMA) => {
                 Asked::Contents
