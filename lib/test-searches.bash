@@ -64,25 +64,6 @@ search_tree() {
     settle
 }
 
-# Targets for which Clang finds headers by variables, files of a system or its own path; a file that may become a map of headers; and a target whose
-# objects have the version of an SDK in them.
-search_targets() {
-    local words
-    search_tree
-    for words in --target=x86_64-pc-windows-msvc --target=x86_64-w64-mingw32 "-target armv7m-none-eabi"; do
-        search_none "clang $words" clang $words -Ilate
-    done
-    echo 'no map' >late.hmap
-    settle
-    search_none "clang: a file in the place of a folder" clang -Ilate.hmap -Ilate
-    for words in --target=x86_64-apple-macos10.15 "-target x86_64-apple-macos10.15"; do
-        mark
-        search_call "clang $words" clang $words -Ilate
-        search_call "clang $words, again" clang $words -Ilate
-        is "clang $words: passed through" since 0 0
-    done
-}
-
 # Rights that are taken away: by a user other than root, with a cache directory of its own.
 search_rights() {
     local cc=$1 words
@@ -517,7 +498,7 @@ search_others() {
         search_call "$cc: an object beside headers, $number" $cc -Iearly -Ilate
     done
     is "$cc: objects beside headers: direct hits" since 0 0 3
-    [ "$cc" != clang ] || { search_toolchain; search_targets; }
+    [ "$cc" != clang ] || search_toolchain
     # Eight at once, and the file appears.
     "$host" --clear
     for number in 1 2 3 4 5 6 7 8; do "$host" $cc -Iearly -Ilate -c it.c -o "it-$number.o" & done

@@ -5,13 +5,12 @@ use base_files::{OsBytes, join};
 use cache_disk::{is_of_process, reads_as_file};
 use cache_host::{CommandLine, HostError};
 use cache_known_options::{
-    Placed, PlacedWords, after_front, beside_of, for_preprocessor, is_among, odd_dependency_file,
+    PlacedWords, after_front, beside_of, for_preprocessor, is_among, odd_dependency_file,
     side_ending, unknown_word,
 };
 use cache_settings::Key;
 use cache_statistics::TO_STANDARD_OUTPUT;
 use cmdlines_tables::CCompilerKind;
-use memchr::memmem;
 use sccache_recorded_builds::options_in;
 use std::alloc::Global;
 use std::fs;
@@ -196,7 +195,6 @@ fn unknown_in(
     };
     let word = word.or(odd_dependency_file(words));
     let word = word.or(word_running_others(kind, words));
-    let word = word.or(word_with_sdk(words));
     match word.or(late_language(words)) {
         Some(word) => Ok(Some(format!(in alloc; "{word}")?)),
         None => Ok(None),
@@ -214,37 +212,6 @@ fn word_running_others(kind: CCompilerKind, words: &[OsBytes]) -> Option<&OsByte
     words
         .iter()
         .find(|word| after_front(&RUNNING, word.as_bytes()).is_some())
-}
-
-/// What targets have in their names whose objects have the version of an SDK in them, which a file of it and a variable say.
-const WITH_SDK: [&[u8]; 4] = [b"apple", b"darwin", b"macos", b"-ios"];
-
-/// What comes before the name of a target in one word, and the options that take it as the next one.
-const OF_TARGET: [&str; 2] = ["--target=", "-target="];
-
-const TAKING_TARGET: [&str; 2] = ["--target", "-target"];
-
-/// The target that a word names.
-fn target_of(placed: Placed<'_>) -> Option<&[u8]> {
-    let word = placed.word.as_bytes();
-    match placed.option {
-        Some(option) if is_among(&TAKING_TARGET, option.as_bytes()) => Some(word),
-        Some(_) => None,
-        None => Some(after_front(&OF_TARGET, word)?.1),
-    }
-}
-
-/// The word that names a target with an SDK.
-fn word_with_sdk(words: &[OsBytes]) -> Option<&OsBytes> {
-    for placed in PlacedWords::of(words) {
-        let target = target_of(placed).unwrap_or(&[]);
-        for name in WITH_SDK {
-            if memmem::find(target, name).is_some() {
-                return Some(placed.word);
-            }
-        }
-    }
-    None
 }
 
 /// Whether a word says of which language the inputs after it are.

@@ -1,6 +1,5 @@
 //! The folders in which a compiler looks for what sources include, as it reports them.
 
-use memchr::memmem;
 use std::alloc::{AllocError, Global};
 
 /// What a compiler says where its list begins, goes on and ends.
@@ -24,27 +23,6 @@ const INSTALLATIONS: [&str; 2] = [
     "Found candidate GCC installation: ",
     "Selected GCC installation: ",
 ];
-
-/// What a Clang says of itself, and what the line begins with that names the machine for which it compiles.
-const CLANG: &[u8] = b"clang version ";
-
-const TARGET: &str = "Target: ";
-
-/// What such a name has in it where the whole list says where headers are looked for. Elsewhere files of the system and variables count as well.
-const UNDERSTOOD: &[u8] = b"linux";
-
-/// Whether what a compiler says shows all by which it finds headers.
-fn is_understood(said: &str) -> bool {
-    if memmem::find(said.as_bytes(), CLANG).is_none() {
-        return true;
-    }
-    for line in said.split('\n') {
-        if let Some(target) = line.strip_prefix(TARGET) {
-            return memmem::find(target.as_bytes(), UNDERSTOOD).is_some();
-        }
-    }
-    false
-}
 
 /// The folders in which a compiler looks, in this order.
 #[derive(Drop)]
@@ -117,14 +95,11 @@ impl<'a> SearchList<'a> {
     }
 
     /// The list in what a compiler prints beside the text when it is asked to say what it does. None where there is none, or where it is to look in what
-    /// is no folder, or finds headers in ways of its own.
+    /// is no folder.
     pub fn read(alloc: Global, said: &'a [u8]) -> Result<Option<SearchList<'a>>, AllocError> {
         let Ok(said) = str::from_utf8(said) else {
             return Ok(None);
         };
-        if !is_understood(said) {
-            return Ok(None);
-        }
         let mut list = SearchList::new(alloc);
         let mut part = Part::Before;
         for line in said.split('\n') {

@@ -363,8 +363,7 @@ impl<'d, 'a> Watching<'d, 'a> {
         }
     }
 
-    /// Has a folder watched that the compiler leaves out: that there is none, or that it is the same as one in which the compiler looks. A file in
-    /// its place may become a map of headers, by its contents.
+    /// Has a folder watched that the compiler leaves out: that there is none, or that it is the same as one in which the compiler looks.
     fn take_left_out<R: Files + AllocGlobal>(
         &mut self,
         rt: &R,
@@ -374,10 +373,7 @@ impl<'d, 'a> Watching<'d, 'a> {
         let path = path_of(rt.alloc(), self.dir, folder.as_bytes())?;
         let path = path.trim_end_matches('/');
         let Some(number) = self.take_folder(rt, path)? else {
-            return match self.look(rt, path)? {
-                Found::File => Err(Unwatched::List),
-                _ => Ok(()),
-            };
+            return Ok(());
         };
         let Some(state) = self.state_at(path) else {
             return Err(Unwatched::List);
