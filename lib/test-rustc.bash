@@ -88,7 +88,7 @@ rustc_words() {
 
 # What an output depends on beside the text of the crate.
 rustc_changes() {
-    local json="--error-format=json --json=diagnostic-rendered-ansi,artifacts" number
+    local json="--error-format=json --json=diagnostic-rendered-ansi,artifacts"
     local it="$json --crate-name it --edition=2021 it.rs --crate-type lib --out-dir out --emit=dep-info,metadata,link"
     local user="$json --crate-name user --edition=2021 user.rs --crate-type lib --out-dir out --emit=link"
     changed_rustc "at first" 0 1 $it
@@ -129,20 +129,6 @@ rustc_changes() {
     printf 'int number(void) { return 2; }\n' | gcc -x c -c - -o native/n.o && ar rcs native/libnumber.a native/n.o
     changed_rustc "a native library changed" 0 1 $json --crate-name nat --crate-type lib --out-dir out --emit=link nat.rs -L native=native
     changed_rustc "a native library by a word" 0 1 $json --crate-name quiet --crate-type lib --out-dir out --emit=link quiet.rs -L native=native -l static=number
-    # A library by the name of its file, and files that an assembler takes in: nothing says that they changed.
-    printf '#[link(name = "whole.x", kind = "static", modifiers = "+verbatim")] extern "C" { pub fn number() -> i32; }\n' >whole.rs
-    printf 'core::arch::global_asm!(".section .rodata", ".incbin \\"taken\\"", ".text");\n' >takes.rs
-    printf 'core::arch::global_asm!(concat!(".section .rodata\\n.inc", "bin \\"taken\\"\\n.text"));\n' >pieces.rs
-    for number in 1 2; do
-        printf 'int number(void) { return %s; }\n' $number | gcc -x c -c - -o native/n.o && rm -f native/whole.x && ar rcs native/whole.x native/n.o
-        echo $number >taken
-        passed_by_rustc "a library by its file, $number" $json --crate-name quiet --crate-type lib --out-dir out --emit=link quiet.rs \
-            -L native=native -l static:+verbatim=whole.x
-        passed_by_rustc "a library by its file, as a source names it, $number" $json --crate-name whole --crate-type lib --out-dir out --emit=link whole.rs \
-            -L native=native
-        passed_by_rustc "a file that an assembler takes in, $number" $json --crate-name takes --crate-type lib --out-dir out --emit=link takes.rs
-        passed_by_rustc "a directive in pieces, $number" $json --crate-name pieces --crate-type lib --out-dir out --emit=link pieces.rs
-    done
 }
 
 # Makes a rustc at that path that has a program of awk change the dependency file of a crate `it`, once it has compiled it.

@@ -157,9 +157,6 @@ pub fn keep_made<R: Files<File = File> + AllocGlobal>(
     if !may_keep(rt, line, known)? {
         return Err(HostError::Changed);
     }
-    if known.may_take_files(rt)? {
-        return Err(HostError::TakesFiles);
-    }
     let order = order_made(rt, dep_info, known)?;
     let beside = Beside {
         errors: &known.errors,

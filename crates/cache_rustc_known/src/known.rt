@@ -1,7 +1,6 @@
 //! What is known of a call of rustc, more from attempt to attempt.
 
 use crate::audits::AuditedCrate;
-use crate::taken_files::{FoundParts, may_be_source};
 use base_files::{FileTime, Files as CallFiles, Listed, Metadata, OsBytes, join};
 use base_snapshots::{LoadedFile, SnapshotFiles};
 use cache_disk::State;
@@ -295,20 +294,6 @@ impl KnownCrate {
             }
         }
         note_parts(rt, &line.folder, self.parts_name.as_str(), &self.parts)
-    }
-
-    /// Whether the sources may take in files that no dependency file names.
-    pub fn may_take_files<R: Files + AllocGlobal>(&self, rt: &R) -> Result<bool, HostError> {
-        let mut found = FoundParts::none();
-        for (path, _) in self.states.iter() {
-            if !may_be_source(path) {
-                continue;
-            }
-            if let Some(contents) = regular(rt, text_in(path)?) {
-                found.take(contents.as_bytes());
-            }
-        }
-        Ok(found.may_take_files())
     }
 
     /// Whether all files that were loaded are as they were.

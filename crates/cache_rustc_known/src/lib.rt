@@ -6,7 +6,6 @@ mod audits;
 mod known;
 mod manifests;
 mod questions;
-mod taken_files;
 
 pub use audits::AuditedCrate;
 pub use known::KnownCrate;

@@ -31,11 +31,6 @@ pub const VALUED: [&str; 21] = [
 /// Options with a value, which comes right after their letter or is the next word.
 pub const LETTERS: [&str; 5] = ["-A", "-D", "-F", "-W", "-l"];
 
-/// The option of a library, and what its value has in it where that is the name of a file: only those called as libraries are looked at.
-pub const LIBRARY: &str = "-l";
-
-pub const VERBATIM: &[u8] = b"verbatim";
-
 /// The option of a folder in which crates or libraries are searched.
 pub const FOLDER: &str = "-L";
 

@@ -1,10 +1,8 @@
 //! The first word of a command to rustc that isn't known.
 
-use crate::tables::{
-    CODEGEN, FLAGS, FOLDER, GENERATION, LETTERS, LIBRARY, SEARCHED, UNNAMED_FILES, VALUED, VERBATIM,
-};
+use crate::tables::{CODEGEN, FLAGS, FOLDER, GENERATION, LETTERS, SEARCHED, UNNAMED_FILES, VALUED};
 use base_files::OsBytes;
-use memchr::{memchr, memmem};
+use memchr::memchr;
 
 /// Whether a word is one of these.
 pub(crate) fn is_among(words: &[&str], word: &[u8]) -> bool {
@@ -62,11 +60,6 @@ fn is_known_folder(value: &[u8]) -> bool {
     begins_with(&SEARCHED, value)
 }
 
-/// Whether it is the name of a library, and not of a file as it is called.
-fn is_known_library(value: &[u8]) -> bool {
-    memmem::find(value, VERBATIM).is_none()
-}
-
 /// Whether the word is an option whose value is the next one.
 fn takes_next(word: &[u8]) -> bool {
     let is_valued = is_among(&VALUED, word) || is_among(&LETTERS, word);
@@ -78,9 +71,6 @@ fn is_known_value(option: &[u8], value: &[u8]) -> bool {
     if option == FOLDER.as_bytes() {
         return is_known_folder(value);
     }
-    if option == LIBRARY.as_bytes() {
-        return is_known_library(value);
-    }
     !is_among(&GENERATION, option) || is_known_codegen(value)
 }
 
@@ -91,9 +81,6 @@ fn is_known(word: &[u8]) -> bool {
     }
     if is_among(&FLAGS, word) || takes_next(word) || is_among(&VALUED, before_equals(word)) {
         return true;
-    }
-    if let Some(value) = value_after(LIBRARY, word) {
-        return is_known_library(value);
     }
     if value_after_one(&LETTERS, word).is_some() {
         return true;
