@@ -168,7 +168,7 @@ rustc_rules() {
 rustc_places() {
     local json="--error-format=json --json=diagnostic-rendered-ansi,artifacts" folder
     local it="$json --crate-name it --edition=2021 it.rs --crate-type lib --emit=dep-info,metadata,link"
-    for folder in out there "$PWD/whole" "$PWD/out/deeper" "sp ace" there/ out//; do
+    for folder in out there "$PWD/whole" "$PWD/out/deeper" "sp ace"; do
         mkdir -p "$folder"
         "$rustc" $it --out-dir "$folder" 2>plain.errors
         (cd "$folder" && sha256sum it.d libit.*) >plain.sums

@@ -66,11 +66,6 @@ fn width_in(words: &[OsBytes]) -> &[u8] {
     b"none"
 }
 
-/// A folder as it stands before the slash in paths of its files, which is its own last one where it has one.
-fn without_slash(folder: &[u8]) -> &[u8] {
-    folder.strip_suffix(b"/").unwrap_or(folder)
-}
-
 /// What a session is given about a file of that size: nothing of its times.
 fn metadata_of(size: u64) -> Metadata {
     let time = FileTime::from_seconds(0);
@@ -147,7 +142,7 @@ impl KnownCrate {
     /// What the call wants of what is kept.
     pub fn wishes(&self) -> Wishes<'_> {
         Wishes {
-            folder: without_slash(self.folder.as_bytes()),
+            folder: self.folder.as_bytes(),
             width: self.width.as_bytes(),
         }
     }
