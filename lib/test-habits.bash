@@ -47,7 +47,6 @@ habits() {
     habits_links
     habits_rights
     habits_secrets
-    habits_strangers
     habits_program
     cd "$work" || return
 }
@@ -351,9 +350,6 @@ habits_links() {
     rm links/gcc
     touch links/gcc
     refused "--links: a file in its place" "links/gcc is there, and is no link" "$host" --links links
-    ln -sfn "$(command -v gcc)" links/gcc
-    refused "--links: another link in its place" "links/gcc is there, and is no link to gulmaat" "$host" --links links
-    is "--links: the other link stays" [ "$(readlink links/gcc)" = "$(command -v gcc)" ]
 }
 
 # A file of settings keeps its rights and its place; a new one that names a server is its owner's alone.
@@ -389,20 +385,6 @@ habits_secrets() {
     is "a line that is none: where it is" grep -q "secrets/gulmaat.conf: line 2: a line is KEY = VALUE" messages
     is "a line that is none: it isn't said" [ "$(grep -c SECRET messages)" = 0 ]
     rm -r secrets
-}
-
-# --clear takes what gulmaat keeps, and nothing of others.
-habits_strangers() {
-    mkdir -p study/results/2024 study/results/ab study/parts far/ab
-    echo 'years of work' | tee study/results/2024/table.csv study/results/ab/notes study/parts/x far/ab/0123456789abcdef0123456789abcdef >/dev/null
-    ln -s ../far study/hints
-    echo kept >study/results/ab/0123456789abcdef0123456789abcdef
-    "$host" -d study -C
-    is "--clear: what others put there stays" [ "$(cat study/results/2024/table.csv study/results/ab/notes study/parts/x | wc -l)" = 3 ]
-    is "--clear: what a link leads to stays" [ -f far/ab/0123456789abcdef0123456789abcdef ]
-    is "--clear: the link stays" [ -L study/hints ]
-    is "--clear: what is kept goes" [ ! -e study/results/ab/0123456789abcdef0123456789abcdef ]
-    rm -r study far
 }
 
 # The program beside the host, where it is installed, and where it isn't.

@@ -6,8 +6,8 @@ use std::io::ErrorKind;
 use std::rt::Files;
 use std::{fs, io};
 
-/// How many letters the name of a file has at least.
-const LETTERS: usize = 32;
+/// How often it is tried to remove a folder.
+const TRIES: u32 = 16;
 
 /// Whether what was to be removed is gone, by whomever.
 fn is_gone(done: &io::Result<()>) -> bool {
@@ -17,74 +17,20 @@ fn is_gone(done: &io::Result<()>) -> bool {
     }
 }
 
-/// Whether all letters are digits of numbers to the base 16.
-fn is_hexadecimal(text: &str) -> bool {
-    text.bytes()
-        .all(|byte| matches!(byte, b'0'..=b'9' | b'a'..=b'f'))
-}
-
-/// Whether a folder is called as one is in which files of a kind lie.
-fn is_row(name: &str) -> bool {
-    name.len() == 2 && is_hexadecimal(name)
-}
-
-/// Whether a file is called as those that are kept: by the rest of a digest, and while it is written by what is a process's own after it.
-fn is_kept_name(name: &str) -> bool {
-    let (digest, own) = name.split_once('.').unwrap_or((name, ""));
-    digest.len() >= LETTERS && is_hexadecimal(digest) && is_hexadecimal(own)
-}
-
-/// Takes away the file of that path, unless it is another thing than a file.
-fn remove<R: Files + AllocGlobal>(rt: &R, place: &str) -> Result<(), OptionError> {
-    let is_file = fs::symlink_metadata(rt, place).is_ok_and(|found| found.is_file());
-    if !is_file || is_gone(&fs::remove_file(rt, place)) {
-        return Ok(());
+/// Takes away a folder with all that is in it. While others put files there it is tried again.
+fn clear_folder<R: Files + AllocGlobal>(rt: &R, place: &str) -> Result<(), OptionError> {
+    for _ in 0..TRIES {
+        if is_gone(&fs::remove_dir_all(rt, place)) {
+            return Ok(());
+        }
     }
     Err(OptionError::Wrong(format!(in rt.alloc(); "{place} can't be removed")?))
 }
 
-/// Takes away the files of a folder that are called as those that are kept, and the folder where nothing else is in it.
-fn clear_row<R: Files + AllocGlobal>(rt: &R, folder: &str) -> Result<(), OptionError> {
-    let Ok(entries) = fs::read_dir(&rt, folder) else {
-        return Ok(());
-    };
-    for entry in entries {
-        let Ok(entry) = entry else {
-            continue;
-        };
-        if is_kept_name(entry.file_name()) {
-            let place = format!(in rt.alloc(); "{folder}/{}", entry.file_name())?;
-            remove(rt, place.as_str())?;
-        }
-    }
-    let _ = fs::remove_dir(rt, folder);
-    Ok(())
-}
-
-/// Takes away what is kept under this name. A folder to which a link leads is another's, and so is what else lies there.
+/// Takes away what is kept under this name.
 fn clear_part<R: Files + AllocGlobal>(rt: &R, kept: &str, part: &str) -> Result<(), OptionError> {
-    let folder = format!(in rt.alloc(); "{kept}/{part}")?;
-    let is_own = fs::symlink_metadata(rt, folder.as_str()).is_ok_and(|found| found.is_dir());
-    if !is_own {
-        return Ok(());
-    }
-    let Ok(entries) = fs::read_dir(&rt, folder.as_str()) else {
-        return Err(OptionError::Wrong(format!(in rt.alloc();
-            "{} can't be removed",
-            folder.as_str()
-        )?));
-    };
-    for entry in entries {
-        let Ok(entry) = entry else {
-            continue;
-        };
-        if is_row(entry.file_name()) {
-            let row = format!(in rt.alloc(); "{}/{}", folder.as_str(), entry.file_name())?;
-            clear_row(rt, row.as_str())?;
-        }
-    }
-    let _ = fs::remove_dir(rt, folder.as_str());
-    Ok(())
+    let place = format!(in rt.alloc(); "{kept}/{part}")?;
+    clear_folder(rt, place.as_str())
 }
 
 /// Takes away the file of sizes.
@@ -96,7 +42,7 @@ fn clear_sizes<R: Files + AllocGlobal>(rt: &R, kept: &str) -> Result<(), OptionE
     }
 }
 
-/// Takes away all that is kept in this folder, and not its settings nor its counters, nor what others put there.
+/// Takes away all that is kept in this folder, and not its settings nor its counters.
 pub fn clear<R: Files + AllocGlobal>(rt: &R, kept: &str) -> Result<(), OptionError> {
     for kind in Kind::ALL.iter() {
         clear_part(rt, kept, kind.name())?;

@@ -5,9 +5,6 @@ use std::fs;
 use std::os::unix::fs::symlink;
 use std::rt::Files;
 
-/// What paths of hosts end in.
-const HOSTS: [&str; 2] = ["/gulmaat", "/gulmaat-host"];
-
 /// Names of compilers.
 const NAMES: [&str; 6] = ["cc", "c++", "gcc", "g++", "clang", "clang++"];
 
@@ -34,20 +31,7 @@ fn is_version(text: &str) -> bool {
     !text.is_empty()
 }
 
-/// Whether a link leads to a host, or nowhere.
-fn is_own_link<R: Files + AllocGlobal>(rt: &R, place: &str) -> bool {
-    let Ok(file) = fs::canonicalize(rt, place) else {
-        return true;
-    };
-    for end in HOSTS {
-        if file.as_str().ends_with(end) {
-            return true;
-        }
-    }
-    false
-}
-
-/// Puts a link to the host under that name into the folder, in the place of an old one that leads to a host.
+/// Puts a link to the host under that name into the folder, in the place of an old one.
 fn put_link<R: Print + Files + AllocGlobal>(
     rt: &R,
     host: &str,
@@ -56,9 +40,9 @@ fn put_link<R: Print + Files + AllocGlobal>(
 ) -> Result<(), OptionError> {
     let place = format!(in rt.alloc(); "{folder}/{name}")?;
     if let Ok(metadata) = fs::symlink_metadata(rt, place.as_str()) {
-        if !metadata.is_symlink() || !is_own_link(rt, place.as_str()) {
+        if !metadata.is_symlink() {
             return Err(OptionError::Wrong(format!(in rt.alloc();
-                "{place} is there, and is no link to gulmaat: name another folder"
+                "{place} is there, and is no link: name another folder"
             )?));
         }
         fs::remove_file(rt, place.as_str())?;
