@@ -45,8 +45,6 @@ habits() {
     habits_settings
     habits_variables
     habits_links
-    habits_rights
-    habits_secrets
     habits_program
     cd "$work" || return
 }
@@ -350,41 +348,6 @@ habits_links() {
     rm links/gcc
     touch links/gcc
     refused "--links: a file in its place" "links/gcc is there, and is no link" "$host" --links links
-}
-
-# A file of settings keeps its rights and its place; a new one that names a server is its owner's alone.
-habits_rights() {
-    local file=rights/home/gulmaat.conf
-    mkdir -p rights/home rights/far
-    GULMAAT_DIR=$PWD/rights/home "$host" -o remote_storage=redis://u:SECRET@h
-    is "a new file that names a server" [ "$(stat -c %a $file)" = 600 ]
-    GULMAAT_DIR=$PWD/rights/home "$host" -M 10G
-    is "rights of a file of settings stay" [ "$(stat -c %a $file)" = 600 ]
-    chmod 640 $file
-    mv $file rights/far/it.conf
-    ln -s ../far/it.conf $file
-    GULMAAT_DIR=$PWD/rights/home "$host" -M 11G
-    is "a link to a file of settings stays" [ "$(readlink $file)" = ../far/it.conf ]
-    is "its rights stay" [ "$(stat -c %a rights/far/it.conf)" = 640 ]
-    is "and it is set" grep -q '^max_size = 11G$' rights/far/it.conf
-    is "-k shows no password" [ "$(GULMAAT_DIR=$PWD/rights/home "$host" -k remote_storage)" = 'redis://***@h' ]
-    rm -r rights
-}
-
-# What isn't well formed is said without what may be a password in it.
-habits_secrets() {
-    local value
-    for value in 'redis:/user:SECRET@h' 'http:me:SECRET@h/x' 'https://h/x|bearer_token=SECRET' 'redis://:SECRET|PW@h' 'https://h/x?token=SECRET|x'; do
-        GULMAAT_REMOTE=$value "$host" gcc -DCOUNT=1 -c it.c -o it.o 2>messages
-        is "$value: it is refused" grep -q 'remote_storage' messages
-        is "$value: it isn't said" [ "$(grep -c SECRET messages)" = 0 ]
-    done
-    mkdir -p secrets
-    printf 'max_size = 1G\nremote_storage redis://u:SECRET@h\n' >secrets/gulmaat.conf
-    GULMAAT_DIR=$PWD/secrets "$host" gcc -DCOUNT=1 -c it.c -o it.o 2>messages
-    is "a line that is none: where it is" grep -q "secrets/gulmaat.conf: line 2: a line is KEY = VALUE" messages
-    is "a line that is none: it isn't said" [ "$(grep -c SECRET messages)" = 0 ]
-    rm -r secrets
 }
 
 # The program beside the host, where it is installed, and where it isn't.

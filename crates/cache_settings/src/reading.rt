@@ -5,12 +5,10 @@ use crate::key::Key;
 use crate::lines::{Line, read_line};
 use crate::places::{SYSTEM, Variables, users_file};
 use crate::settings::Settings;
-use std::alloc::{AllocError, Global};
-use std::fs::Permissions;
+use std::alloc::Global;
+use std::fs;
 use std::io::ErrorKind;
-use std::os::unix::fs::{MetadataExt, PermissionsExt};
 use std::rt::Files;
-use std::{fs, io};
 
 /// Sets what variables say.
 fn read_variables<V: Variables>(
@@ -26,10 +24,9 @@ fn read_variables<V: Variables>(
     Ok(())
 }
 
-/// Sets what the line of that number of a file says. One that isn't well formed may have a password in it, so it isn't said.
+/// Sets what a line of a file says.
 fn take_line(
     alloc: Global,
-    number: usize,
     line: &str,
     place: &str,
     settings: &mut Settings,
@@ -37,7 +34,7 @@ fn take_line(
     match read_line(line) {
         Line::Empty => Ok(()),
         Line::Unfit => Err(SettingsError::Wrong(format!(in alloc;
-            "{place}: line {number}: a line is KEY = VALUE"
+            "{place}: {line}: a line is KEY = VALUE"
         )?)),
         Line::Pair(name, value) => match Key::named(name) {
             Some(key) => settings.set(alloc, key, value, place),
@@ -55,8 +52,8 @@ pub fn take_lines(
     place: &str,
     settings: &mut Settings,
 ) -> Result<(), SettingsError> {
-    for (number, line) in text.lines().enumerate() {
-        take_line(alloc, number.saturating_add(1), line, place, settings)?;
+    for line in text.lines() {
+        take_line(alloc, line, place, settings)?;
     }
     Ok(())
 }
@@ -133,60 +130,19 @@ fn folder_of(place: &str) -> &str {
     }
 }
 
-/// The rights of a file that only its owner reads.
-const PRIVATE: u32 = 0o600;
-
-/// The bits of rights.
-const RIGHTS: u32 = 0o777;
-
-/// The rights that a file of settings gets: those that it has; where it is new those of a private one, if it is to name a server, and else those
-/// of the process.
-fn rights_of<R: Files>(rt: &R, place: &str, text: &str) -> Option<u32> {
-    if let Ok(found) = fs::metadata(rt, place) {
-        return Some(found.mode() & RIGHTS);
-    }
-    for line in text.lines() {
-        if sets(line, Key::RemoteStorage) {
-            return Some(PRIVATE);
-        }
-    }
-    None
-}
-
-/// Writes a file with these rights, which it has before anything is in it.
-fn write_with<R: Files>(rt: &R, place: &str, rights: Option<u32>, text: &str) -> io::Result<()> {
-    if let Some(rights) = rights {
-        fs::write(rt, place, b"")?;
-        fs::set_permissions(rt, place, Permissions::from_mode(rights))?;
-    }
-    fs::write(rt, place, text.as_bytes())
-}
-
-/// The path to which a link leads, or the path itself.
-fn real_place<R: Files + AllocGlobal>(rt: &R, place: &str) -> Result<String, AllocError> {
-    match fs::canonicalize(rt, place) {
-        Ok(real) => String::from_str(rt.alloc(), real.as_str()),
-        Err(_) => String::from_str(rt.alloc(), place),
-    }
-}
-
-/// Puts a text into a file, which is written under another name first.
-fn replace_file<R: Files>(rt: &R, early: &str, place: &str, text: &str) -> io::Result<()> {
-    write_with(rt, early, rights_of(rt, place, text), text)?;
-    fs::rename(rt, early, place)
-}
-
 /// Writes a file all at once, and makes its folder.
 fn write_file<R: Files + AllocGlobal>(
     rt: &R,
     place: &str,
     text: &str,
 ) -> Result<(), SettingsError> {
+    let early = format!(in rt.alloc(); "{place}.new")?;
     let mut done = fs::create_dir_all(rt, folder_of(place));
-    let real = real_place(rt, place)?;
-    let early = format!(in rt.alloc(); "{}.new", real.as_str())?;
     if done.is_ok() {
-        done = replace_file(rt, early.as_str(), real.as_str(), text);
+        done = fs::write(rt, early.as_str(), text.as_bytes());
+    }
+    if done.is_ok() {
+        done = fs::rename(rt, early.as_str(), place);
     }
     match done {
         Ok(()) => Ok(()),

@@ -23,14 +23,6 @@ pub fn shown(alloc: Global, key: Key, value: &str) -> Result<String, fmt::Error>
     }
 }
 
-/// What is no value of a key, as it may be said: of an address that isn't well formed it isn't known where a password is.
-fn shown_unfit(alloc: Global, key: Key, value: &str) -> Result<String, AllocError> {
-    match key {
-        Key::RemoteStorage => String::from_str(alloc, storage::HIDDEN),
-        _ => String::from_str(alloc, value),
-    }
-}
-
 /// What is set. A key that isn't has its usual value.
 #[derive(Drop)]
 pub struct Settings {
@@ -106,7 +98,7 @@ impl Settings {
         if !key.kind().allows(value) {
             let wanted = key.kind().wanted();
             let name = key.name();
-            let value = shown_unfit(alloc, key, value)?;
+            let value = shown(alloc, key, value)?;
             return Err(SettingsError::Wrong(format!(in alloc;
                 "{origin}: {name} is {value}: set it to {wanted}"
             )?));

@@ -8,7 +8,7 @@ use std::fmt;
 const FRONTS: [&str; 5] = ["redis://", "redis+unix:/", "http://", "https://", "file:/"];
 
 /// What is shown in place of something hidden.
-pub(crate) const HIDDEN: &str = "***";
+const HIDDEN: &str = "***";
 
 /// Whether an address is one.
 fn is_address(text: &str) -> bool {

@@ -49,7 +49,7 @@ fn key_named(alloc: Global, name: &str) -> Result<Key, OptionError> {
     }
 }
 
-/// Prints the value of the key of that name. What may be shown to nobody is left out.
+/// Prints the value of the key of that name.
 pub fn get<R: Print + AllocGlobal>(
     rt: &R,
     settings: &Settings,
@@ -57,7 +57,7 @@ pub fn get<R: Print + AllocGlobal>(
     name: &str,
 ) -> Result<(), OptionError> {
     let key = key_named(rt.alloc(), name)?;
-    let value = shown(rt.alloc(), key, value_of(settings, key, kept))?;
+    let value = value_of(settings, key, kept);
     println!(rt; "{value}")?;
     Ok(())
 }
