@@ -20,7 +20,7 @@ int isnt_shown, isnt_kept;
 static int is_coloured;     /* whether the program's word for colours is among the words of the compile */
 static int takes_out;       /* whether colours are taken out of what is shown */
 static int is_begun;        /* whether something was printed */
-static int is_withheld;     /* whether nothing is shown, since colours can't be told from other escapes, or are the compiler's own matter */
+static int is_withheld;     /* whether nothing is shown, since colours can't be told from other escapes */
 
 /* Writes all of it, and waits while a file takes nothing. Gives up when a signal stops this process, which might wait for a reader then. */
 int write_all(int file, const void *bytes, size_t size) {
@@ -41,13 +41,12 @@ int write_all(int file, const void *bytes, size_t size) {
 /* ---- Whether colours are wanted. */
 
 /* When messages are in colour by the caller's own words: the last one about colours counts. */
-static enum { UNSAID, NEVER, AT_A_TERMINAL, ALWAYS } asks_for_colours(void) {
-    int asks = UNSAID;
+static enum { NEVER, AT_A_TERMINAL, ALWAYS } asks_for_colours(void) {
+    int asks = AT_A_TERMINAL;
     for (char **word = words + 1; *word; word++) {
         const char *value = !strncmp(*word, "-fdiagnostics-color", 19) ? *word + 19 : NULL;
         if (!strcmp(*word, "-fcolor-diagnostics") || (value && (!*value || !strcmp(value, "=always")))) asks = ALWAYS;
         else if (!strcmp(*word, "-fno-color-diagnostics") || !strcmp(*word, "-fno-diagnostics-color")) asks = NEVER;
-        else if (!strcmp(*word, "-fdiagnostics-plain-output")) asks = NEVER;
         else if (value && *value == '=') asks = strcmp(value, "=never") ? AT_A_TERMINAL : NEVER;
     }
     return asks;
@@ -57,15 +56,8 @@ static enum { UNSAID, NEVER, AT_A_TERMINAL, ALWAYS } asks_for_colours(void) {
 static int wants_colours(int is_gcc) {
     const char *terminal = getenv("TERM"), *colours = is_gcc ? getenv("GCC_COLORS") : NULL;
     int asks = asks_for_colours();
-    if (asks == ALWAYS || asks == NEVER) return asks == ALWAYS;
+    if (asks != AT_A_TERMINAL) return asks == ALWAYS;
     return terminal && strcmp(terminal, "dumb") && isatty(2) && !(colours && !*colours);
-}
-
-/* Whether it is the compiler's own matter if messages are in colour: at a terminal, where no word says it, a Clang goes by NO_COLOR from version 17
- * on, and no earlier one does. */
-static int is_compilers_matter(int is_gcc) {
-    const char *none = is_gcc ? NULL : getenv("NO_COLOR");
-    return none && *none && asks_for_colours() == UNSAID && isatty(2);
 }
 
 /* ---- Whether an escape may come from the source. */
@@ -243,9 +235,7 @@ void begin_messages(char **line) {
     while (words[before]) before++;
     while (line[now]) now++;
     is_coloured = now > before;
-    int is_gcc = is_coloured && !strcmp(line[now - 1], "-fdiagnostics-color=always");
-    is_withheld = is_coloured && is_compilers_matter(is_gcc);
-    takes_out = is_coloured && !wants_colours(is_gcc);
+    takes_out = is_coloured && !wants_colours(!strcmp(line[now - 1], "-fdiagnostics-color=always"));
 }
 
 /* Shows a part of what a compile prints, of at most 65536 bytes. Where its colours can't be told from other escapes it isn't kept and, where
@@ -253,7 +243,7 @@ void begin_messages(char **line) {
 void show_part(int to, const char *part, size_t size) {
     if (!is_begun && is_coloured && asks_for_colours() != ALWAYS && may_quote_escapes()) {
         isnt_kept = 1;
-        is_withheld = is_withheld || takes_out;
+        is_withheld = takes_out;
     }
     is_begun = 1;
     if (to == 2 && !is_coloured && asks_for_colours() != ALWAYS && has_escape(part, size)) isnt_kept = 1;
@@ -274,9 +264,7 @@ static int show_file(int file, int to) {
     ssize_t size;
     for (off_t at = 0; (size = pread(file, part, sizeof part, at)) > 0; at += size) {
         /* GCC clears the line after each colour, and Clang doesn't. */
-        int is_gcc = memmem(part, size, "\033[K", 3) != NULL;
-        if (!at && to == 2) takes_out = !wants_colours(is_gcc);
-        if (!at && to == 2 && is_compilers_matter(is_gcc)) isnt_shown = 1;
+        if (!at && to == 2) takes_out = !wants_colours(memmem(part, size, "\033[K", 3) != NULL);
         show(to, part, size);
     }
     return size < 0 ? -1 : 0;

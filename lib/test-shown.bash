@@ -80,14 +80,6 @@ host_colours() {
             # shellcheck disable=SC2086
             as_alone "$cc: $source.c, $words" 2 "$cc" -Wall -fdiagnostics-color=$words -c $source.c -o it.o
         done
-        for words in -fdiagnostics-color=auto "-fdiagnostics-color=never -fdiagnostics-color=auto" "-fdiagnostics-color=auto -fno-diagnostics-color" \
-            "-fdiagnostics-color=auto -fdiagnostics-color=always"; do
-            script -qec "$cc $words -Wall -c $source.c -o it.o" /dev/null </dev/null >wanted
-            for turn in 1 2; do
-                script -qec "'$host' $cc $words -Wall -c $source.c -o it.o" /dev/null </dev/null >shown
-                is "$cc: $source.c at a terminal, $words, $turn" cmp wanted shown
-            done
-        done
         for variables in A=1 TERM=dumb "-u TERM" GCC_COLORS= NO_COLOR=1 GCC_COLORS=warning=07; do
             script -qec "env $variables $cc -Wall -c $source.c -o it.o" /dev/null </dev/null >wanted
             for turn in 1 2; do
@@ -105,47 +97,4 @@ host_colours() {
     mark
     "$host" "$cc" -Wall -c plain.c -o it.o 2>shown
     is "$cc: plain.c is kept" since 1 0
-    if [ "$cc" = gcc ]; then plain_output; else no_color; linked_names; fi
-}
-
-# GCC has an option by which messages are those of a log, at a terminal too.
-plain_output() {
-    local words turn
-    for words in -fdiagnostics-plain-output "-fdiagnostics-color=always -fdiagnostics-plain-output" "-fdiagnostics-plain-output -fdiagnostics-color=always"; do
-        # shellcheck disable=SC2086
-        as_alone "gcc: plain.c, $words" 2 gcc $words -Wall -c plain.c -o it.o
-        script -qec "gcc $words -Wall -c plain.c -o it.o" /dev/null </dev/null >wanted
-        for turn in 1 2; do
-            script -qec "'$host' gcc $words -Wall -c plain.c -o it.o" /dev/null </dev/null >shown
-            is "gcc: plain.c at a terminal, $words, $turn" cmp wanted shown
-        done
-    done
-}
-
-# A Clang that goes by NO_COLOR, as later ones do, and one that doesn't.
-no_color() {
-    local turn words script='[ ! -t 2 ] || [ -z "$NO_COLOR" ] || set -- "$@" -fno-color-diagnostics'
-    for words in "" "$script"; do
-        stand_in_compiler clang <<<"$words"
-        NO_COLOR=1 script -qec "$PWD/fake/clang -Wall -c plain.c -o it.o" /dev/null </dev/null >wanted
-        for turn in 1 2 3; do
-            NO_COLOR=1 script -qec "'$host' $PWD/fake/clang -Wall -c plain.c -o it.o" /dev/null </dev/null >shown
-            is "clang: NO_COLOR at a terminal, $words, $turn" cmp wanted shown
-            # The next turn is a hit.
-            "$host" "$PWD/fake/clang" -Wall -c plain.c -o it.o 2>shown
-        done
-    done
-}
-
-# Clang follows links where messages name files by absolute paths, and no text says where links lead.
-linked_names() {
-    local number words="-Wall -fdiagnostics-absolute-paths"
-    for number in 1 2; do printf 'static int f(void) { int unused; return 1; }\n' >place-$number.h; done
-    printf '#include "place.h"\nint g(void) { return f(); }\n' >place.c
-    for number in 1 2; do
-        ln -sfn place-$number.h place.h
-        settle
-        # shellcheck disable=SC2086
-        as_alone "clang: absolute paths, link $number" 2 clang $words -c place.c -o it.o
-    done
 }

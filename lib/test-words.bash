@@ -236,9 +236,6 @@ CC -Xclang -mlink-bitcode-file -Xclang nothing.bc -c foo.c
 CC -serialize-diagnostics x.dia -c foo.c
 CC -MJ x.json -c foo.c
 CC -emit-interface-stubs -c foo.c
-env C\C_PRINT_OPTIONS= CC -c foo.c
-env C\C_LOG_DIAGNOSTICS= CC -Wmissing-prototypes -c foo.c
-env C\C_PRINT_INTERNAL_STAT=1 CC -O1 -c foo.c
 END
     kept_case clang "CC -fsanitize=address -c foo.c"
     # What a kernel has in each call, and options that no help text lists.

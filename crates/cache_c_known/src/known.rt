@@ -12,7 +12,7 @@ use cache_files::results::Kept;
 use cache_format::KeptMessages;
 use cache_host::{CommandLine, Ended, Host, HostError, text_in};
 use cache_known_options::text_words::text_words;
-use cache_known_options::{Beside, Dependencies, after_front};
+use cache_known_options::{Beside, Dependencies};
 use cache_searched_folders::ask_for_own_files;
 use cache_source_files::{Tokens, contents_at, load, load_named, names_files_of, regular};
 use cache_unkept_texts::takes_files;
@@ -375,8 +375,8 @@ impl Known {
         }
     }
 
-    /// The words by which the host compiles: the caller's own, followed by the one for colours, where the session's have it or the caller asks for
-    /// them at a terminal alone, the compiler takes it, and there is a text to which that compiler has something to say.
+    /// The words by which the host compiles: the caller's own, followed by the one for colours, where the session's have it, the compiler
+    /// takes it, and there is a text to which that compiler has something to say.
     pub(crate) fn own_words(
         &self,
         alloc: Global,
@@ -388,8 +388,7 @@ impl Known {
             own.push(word.clone()?)?;
         }
         let color = self.kind.color_word().unwrap_or("");
-        let may_have_color = has_word(words, color) || asks_at_terminal(line.words.as_slice());
-        if self.takes_color && self.has_text() && may_have_color {
+        if self.takes_color && self.has_text() && has_word(words, color) {
             own.push(OsBytes::from_slice(alloc, color.as_bytes())?)?;
         }
         Ok(own)
@@ -489,9 +488,6 @@ impl Known {
         }
         let mut sources = None;
         if !self.was_silent() {
-            if has_word(line.words.as_slice(), ABSOLUTE_PATHS) {
-                return Err(HostError::Quotes);
-            }
             if self.tool.text.is_some() {
                 sources = self.digest_of_sources(rt)?;
             }
@@ -541,33 +537,6 @@ impl Known {
 fn has_word(words: &[OsBytes], word: &str) -> bool {
     words.iter().any(|it| it.as_bytes() == word.as_bytes())
 }
-
-/// What words about colours begin with.
-const OF_COLORS: [&str; 5] = [
-    "-fcolor-diagnostics",
-    "-fdiagnostics-color",
-    "-fdiagnostics-plain-output",
-    "-fno-color-diagnostics",
-    "-fno-diagnostics-color",
-];
-
-/// The word by which messages are in colour at a terminal alone, as they are without it.
-const AT_TERMINAL: &str = "-fdiagnostics-color=auto";
-
-/// Whether the last word about colours asks for them at a terminal alone.
-fn asks_at_terminal(words: &[OsBytes]) -> bool {
-    let mut asks = false;
-    for word in words {
-        let word = word.as_bytes();
-        if after_front(&OF_COLORS, word).is_some() {
-            asks = word == AT_TERMINAL.as_bytes();
-        }
-    }
-    asks
-}
-
-/// The word by which messages name the files to which links lead: no text says where they do.
-const ABSOLUTE_PATHS: &str = "-fdiagnostics-absolute-paths";
 
 /// Whether what is compiled under this key was preprocessed.
 fn is_preprocessed(key: &StoreKey) -> bool {

@@ -16,17 +16,8 @@ use std::alloc::Global;
 use std::fs;
 use std::rt::Files;
 
-/// Variables under which a Clang writes a log, also where they are empty.
-const LOGGING: [&str; 5] = [
-    "CC_LOG_DIAGNOSTICS",
-    "CC_PRINT_HEADERS",
-    "CC_PRINT_INTERNAL_STAT",
-    "CC_PRINT_OPTIONS",
-    "CC_PRINT_PROC_STAT",
-];
-
 /// Variables under which a compiler reads or writes something else.
-const VARIABLES: [&str; 10] = [
+const VARIABLES: [&str; 14] = [
     "AS_SECURE_LOG_FILE",
     "COMPILER_PATH",
     "GCC_EXEC_PREFIX",
@@ -35,13 +26,17 @@ const VARIABLES: [&str; 10] = [
     "DEPENDENCIES_OUTPUT",
     "SUNPRO_DEPENDENCIES",
     "CCC_OVERRIDE_OPTIONS",
+    "CC_PRINT_OPTIONS",
+    "CC_PRINT_HEADERS",
+    "CC_LOG_DIAGNOSTICS",
+    "CC_PRINT_PROC_STAT",
     "LD_PRELOAD",
     "LD_AUDIT",
 ];
 
-/// Whether a variable speaks against keeping.
-fn is_against(name: &[u8], value: &[u8]) -> bool {
-    is_among(&LOGGING, name) || (is_among(&VARIABLES, name) && !value.is_empty())
+/// Whether it is a variable that speaks against keeping.
+fn is_variable(name: &[u8]) -> bool {
+    is_among(&VARIABLES, name)
 }
 
 /// Whether a word is among them.
@@ -117,7 +112,7 @@ pub fn reason_against<R: Files + AllocGlobal>(
 ) -> Result<Option<String>, HostError> {
     let alloc = rt.alloc();
     for (name, value) in line.env.as_slice() {
-        if is_against(name.as_bytes(), value.as_bytes()) {
+        if is_variable(name.as_bytes()) && !value.as_bytes().is_empty() {
             let name = name.clone()?;
             return Ok(Some(format!(in alloc; "{name}")?));
         }
