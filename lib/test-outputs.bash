@@ -74,28 +74,6 @@ output_refusals() {
     }
 }
 
-# Files that come before the compile and go after it, of which the text has none: one that is asked for, and one that is found before another.
-# What is made isn't kept.
-coming_files() {
-    local cc=$1 words
-    mkdir -p ahead behind
-    printf '#define VALUE 1\n' >behind/value.h
-    printf '#include <value.h>\n#if __has_include("asked.h")\nint asked = 1;\n#else\nint asked = 2;\n#endif\nint value = VALUE;\n' >coming.c
-    settle
-    for words in "-Iahead -Ibehind" "-O2 -g -Iahead -Ibehind"; do
-        printf 'case " $* " in *" -E "* | *" -### "*) ;; *" -c coming.c "*) printf "#define VALUE 2\\n" >ahead/value.h; : >asked.h ;; esac\nexec %s "$@"\n' \
-            "$(command -v "$cc")" | stand_in "fake/$cc"
-        mark
-        "$host" "$PWD/fake/$cc" $words -c coming.c -o coming.o
-        is "$cc $words: files that come before the compile: not kept" since 0 0
-        rm ahead/value.h asked.h
-        printf 'exec %s "$@"\n' "$(command -v "$cc")" | stand_in "fake/$cc"
-        $cc $words -c coming.c -o plain.o
-        "$host" "$PWD/fake/$cc" $words -c coming.c -o coming.o
-        is "$cc $words: files that came before a compile, and went" cmp -s plain.o coming.o
-    done
-}
-
 outputs() {
     local cc=$1 dir=$work/outputs-$1 turn number
     mkdir -p "$dir/fake"
@@ -124,7 +102,6 @@ outputs() {
     $cc -c own.c -o plain.o
     "$host" "$dir/fake/$cc" -c own.c -o own.o
     is "$cc: a source that is changed while it is compiled" cmp -s plain.o own.o
-    coming_files "$cc"
     # A compiler that makes nothing, beside an old object: that isn't kept.
     printf 'case " $* " in *" -E "* | *" -print"* | *" -v "*) exec %s "$@" ;; esac\nexit 0\n' "$(command -v $cc)" | stand_in "fake/$cc"
     printf 'int nothing = 3;\n' >nothing.c

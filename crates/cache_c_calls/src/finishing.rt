@@ -14,7 +14,6 @@ use cache_source_files::{
     write_outputs, write_side_files,
 };
 use cache_statistics::CallFacts;
-use cache_watch_lists::Unwatched;
 use ckeys_include_records::PreprocessorCacheEntry;
 use ckeys_include_records::entry_key::EntryKey;
 use cmdlines_tables::CCompilerKind;
@@ -164,8 +163,7 @@ fn share_call<P: Print + Files + AllocGlobal, I: Read>(
     share(rt, line, host, key, result, known.name_to_note(), manifest)
 }
 
-/// What to watch of the text, where the session put a manifest. Where that isn't known, or it put none, it is noted why. An error where a file came
-/// while the call ran: the compile may have found it, and the preprocessor not.
+/// What to watch of the text, where the session put a manifest. Where that isn't known, or it put none, it is noted why.
 fn list_to_watch<P: Print + Files + AllocGlobal, I: Read>(
     rt: &P,
     line: &CommandLine,
@@ -174,21 +172,18 @@ fn list_to_watch<P: Print + Files + AllocGlobal, I: Read>(
     key: &StoreKey,
     how: How,
     known: &mut Known,
-) -> Result<Option<Vec<u8>>, HostError>
+) -> Option<Vec<u8>>
     ensures { host.new.compiled ≡ host.old.compiled }
 {
     if newest_of(answered, known).is_none() {
         known.note_unrecorded(rt.alloc(), how);
-        return Ok(None);
+        return None;
     }
     match known.list_to_watch(rt, line, host, key) {
-        Ok(list) => Ok(Some(list)),
-        Err(Unwatched::Changed) if how == How::Fresh && known.audited.is_none() => {
-            Err(HostError::Changed)
-        }
+        Ok(list) => Some(list),
         Err(why) => {
             known.unwatched = Some(why);
-            Ok(None)
+            None
         }
     }
 }
@@ -224,7 +219,7 @@ pub(crate) fn keep_or_give<P: Print + Files<File = File> + AllocGlobal, I: Read>
     };
     let audit = known.compare(rt, line, key, given.outputs)?;
     // What the compiler prints for this isn't a message of the call.
-    let list = list_to_watch(rt, line, host, answered, key, given.how, known)?;
+    let list = list_to_watch(rt, line, host, answered, key, given.how, known);
     let is_kept = given.how == How::Fresh && matches!(audit, Audit::None);
     if is_kept {
         if !are_words_unchanged(rt, line)? {
