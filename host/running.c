@@ -180,11 +180,11 @@ pid_t start(const char *program, int *to, int *from) {
     return child;
 }
 
-/* Starts the compiler, whose input is that file, and whose output and messages go to these. */
-static int start_compiler(char **line, int input, int output, int errors, int has_list) {
+/* Starts the compiler, whose output and messages go to these files. */
+static int start_compiler(char **line, int output, int errors, int has_list) {
     tell_inside();
     sigprocmask(SIG_BLOCK, &stops, NULL);
-    pid_t child = stopped ? -1 : launch(compiler, line, (const int[]){input, output, errors}, 0, has_list);
+    pid_t child = stopped ? -1 : launch(compiler, line, (const int[]){-1, output, errors}, 0, has_list);
     if (child > 0 && fault) waitpid(child, NULL, 0);
     else if (child > 0) running = child;
     sigprocmask(SIG_SETMASK, &usual, NULL);
@@ -244,14 +244,10 @@ static int wait_for(struct stream *streams, int count) {
 
 static int make_empty(int file) { return ftruncate(file, 0) || lseek(file, 0, SEEK_SET) ? -1 : 0; }
 
-/* Has the compiler print a text, or what it says of itself. The caller's input is left for the compile. Returns how it ended, as wait does; -1 where
- * it couldn't be started. */
+/* Has the compiler print a text, or what it says of itself. Returns how it ended, as wait does; -1 where it couldn't be started. */
 int preprocess(char **line) {
-    int none = was_closed[0] ? -1 : open("/dev/null", O_RDONLY | O_CLOEXEC);
-    if (none < 0 && !was_closed[0]) return -1;
-    int starts = !make_empty(text) && !make_empty(messages) && !start_compiler(line, none, text, messages, 1);
-    if (none >= 0) close(none);
-    return starts ? wait_for(NULL, 0) : -1;
+    if (make_empty(text) || make_empty(messages) || start_compiler(line, text, messages, 1)) return -1;
+    return wait_for(NULL, 0);
 }
 
 /* Has the compiler make its outputs, and shows what it prints as it comes. */
@@ -263,7 +259,7 @@ int compile(char **line) {
     if (starts) {
         streams[1].from = errors[0];
         begin_messages(line);
-        starts = !start_compiler(line, -1, output[1], errors[1], 0);
+        starts = !start_compiler(line, output[1], errors[1], 0);
         close(errors[1]);
     }
     close(output[1]);
@@ -280,7 +276,7 @@ int compile(char **line) {
 /* Runs the compiler as it would run without gulmaat, and ends as it did, with a line in the log. Returns only where it couldn't be started. */
 static void run_for_log(void) {
     uint64_t from = now();
-    if (start_compiler(words, -1, -1, -1, 0)) return;
+    if (start_compiler(words, -1, -1, 0)) return;
     int ended = wait_for(NULL, 0);
     note_run('C', from);
     write_line(ended);

@@ -70,72 +70,6 @@ marker_in_string() {
     done
 }
 
-# What these arguments of a compiler come to, with a sixth file open and an input, and without.
-own_state() {
-    local to=$1
-    shift
-    {
-        timeout 20 "$@" -o it.o 6<d.bin <given.c
-        echo $?
-        sha256sum it.o
-        rm -f it.o
-        printf 'int from_pipe;\n' | timeout 20 "$@" -o it.o 6<&-
-        echo $?
-        sha256sum it.o
-        rm -f it.o
-    } >"$to" 2>&1
-}
-
-# A call that asks for a file of which each process has another ends as by the compiler alone, in direct mode and without it, and isn't kept.
-own_case() {
-    local cc=$1 name=$2 mode turn
-    shift 2
-    own_state plain.state "$cc" "$@"
-    for mode in 1 0; do
-        mark
-        for turn in first second; do
-            GULMAAT_DIRECT=$mode own_state ours.state "$host" "$cc" "$@"
-            is "$cc: $name, direct mode $mode, $turn" cmp -s plain.state ours.state
-        done
-        is "$cc: $name, direct mode $mode: not kept" since 0 0
-    done
-}
-
-own_files() {
-    local cc=$1 source mode
-    printf 'int given;\n' >given.c
-    for source in '#if __has_include("/proc/self/fd/6")' $'#define OPEN "/dev/fd/6"\n#if __has_include(OPEN)' \
-        $'#define IS(x) __has_include(x)\n#if IS("/usr/../dev/fd/6")'; do
-        printf '%s\nint a = 1;\n#else\nint a = 2;\n#endif\n' "$source" >own.c
-        settle
-        own_case "$cc" "a source with $source" -c own.c
-    done
-    for source in '#include "/dev/stdin"' '#include "/proc/self/fd/0"' '#line 1 "/proc/self/status"' '#line 1 "/sys/kernel/notes"'; do
-        printf '%s\nint own(void) { int unused; return 0; }\n' "$source" >own.c
-        settle
-        own_case "$cc" "a source with $source" -Wall -c own.c
-    done
-    own_case "$cc" "an input /dev/stdin" -x c -c /dev/stdin
-    own_case "$cc" "an input of a process" -x c -c /proc/self/fd/0
-    # What reads as a file of the kernel's by a link.
-    ln -sf /proc/self/status linked.h
-    printf '#line 1 "linked.h"\nint own(void) { int unused; return 0; }\n' >own.c
-    settle
-    own_case "$cc" "a link to a file of the kernel's" -Wall -c own.c
-    # A pipe is read once.
-    mkfifo pipe
-    for mode in 1 0; do
-        cat given.c >pipe &
-        GULMAAT_DIRECT=$mode timeout 20 "$host" "$cc" -x c -c pipe -o it.o
-        is "$cc: an input that is a pipe, direct mode $mode: status" [ $? = 0 ]
-        wait
-        $cc -x c -c given.c -o plain.o
-        is "$cc: an input that is a pipe, direct mode $mode" [ "$(nm it.o)" = "$(nm plain.o)" ]
-    done
-    rm -f pipe linked.h own.c
-    text_case "$cc" "a path of a process" 'const char *path = "/proc/self/maps", *other = "/dev/stdin";' 1 1
-}
-
 texts() {
     local cc=$1 words dir=$work/texts-$1 directive
     local -x TZ
@@ -146,7 +80,6 @@ texts() {
     marker_in_string "$cc"
     echo one >d.bin
     echo nop >s.inc
-    own_files "$cc"
     # Files that the assembler takes in, however that is written.
     for directive in '".incbin \"d.bin\""' '".INCBIN \"d.bin\""' '".inc" "bin \"d.bin\""' '"\56inc\x62in \"d.bin\""' \
         '"nop\n\t.Include \"s.inc\""'; do

@@ -463,7 +463,7 @@ pub fn decide_on_c<P: Print + Files<File = File> + AllocGlobal, I: Read>(
     let Some(kind) = kind_of(rt, line.executable.as_str())? else {
         return pass(rt.alloc(), "pass: unknown compiler");
     };
-    match reason_against(rt, line, kind)? {
+    match reason_against(rt.alloc(), line, kind)? {
         Some(reason) => Ok(End::pass(format!(in rt.alloc(); "pass: {reason}")?)),
         None => ask(rt, line, host, kind),
     }

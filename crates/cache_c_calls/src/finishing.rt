@@ -225,7 +225,7 @@ pub(crate) fn keep_or_give<P: Print + Files<File = File> + AllocGlobal, I: Read>
         if !are_words_unchanged(rt, line)? {
             return Err(HostError::Changed);
         }
-        keep(rt, line, key, given.outputs, known.messages(rt, line)?)?;
+        keep(rt, line, key, given.outputs, known.messages(rt)?)?;
     } else if given.how != How::Fresh {
         give_kept(rt, line, key, given, known)?;
     }

@@ -13,7 +13,6 @@ use cache_format::KeptMessages;
 use cache_host::{CommandLine, Ended, Host, HostError, text_in};
 use cache_known_options::text_words::text_words;
 use cache_known_options::{Beside, Dependencies};
-use cache_searched_folders::ask_for_own_files;
 use cache_source_files::{Tokens, contents_at, load, load_named, names_files_of, regular};
 use cache_unkept_texts::takes_files;
 use cache_watch_lists::Unwatched;
@@ -71,8 +70,6 @@ pub struct Known {
     loaded: Option<OsBytes>,
     /// The files that the text names, once it was printed, or an input that is compiled as it is.
     pub(crate) named: NamedFiles,
-    /// Whether it was found out that they ask for no file of which each process has another.
-    are_asked: bool,
     /// Whether these were found unchanged, after the compile where one ran.
     pub(crate) are_unchanged: bool,
     /// The files of the text, as the compiler lists them for a dependency file; nothing where none is asked for.
@@ -117,7 +114,6 @@ impl Known {
             audited: None,
             loaded: None,
             named: NamedFiles::new(alloc),
-            are_asked: false,
             are_unchanged: false,
             list: OsBytes::empty(alloc),
             written: None,
@@ -190,37 +186,13 @@ impl Known {
         Ok(true)
     }
 
-    /// Refuses a text whose sources may ask for files of which each process has others: the preprocessor had others than the compiler has.
-    pub fn refuse_own_files<R: Files + AllocGlobal>(
-        &mut self,
-        rt: &R,
-        line: &CommandLine,
-    ) -> Result<(), HostError> {
-        if self.are_asked || self.tool.text.is_none() {
-            return Ok(());
-        }
-        self.named.read(rt);
-        let mut sources = Vec::new(rt.alloc());
-        for file in self.named.files.iter() {
-            if let Some(contents) = file.contents() {
-                sources.push(contents.as_bytes())?;
-            }
-        }
-        if ask_for_own_files(rt.alloc(), line.words.as_slice(), sources.as_slice())? {
-            return Err(HostError::TakesFiles);
-        }
-        drop(sources);
-        self.are_asked = true;
-        Ok(())
-    }
-
     /// Loads what the text printed last names. Direct mode is turned off where it isn't certain what was read for it.
     pub fn follow_text<R: Files + AllocGlobal>(
         &mut self,
         rt: &R,
         line: &CommandLine,
     ) -> Result<(), HostError> {
-        self.refuse_own_files(rt, line)?;
+        self.named.read(rt);
         if !load_named(rt, line, &self.named, &mut self.files, &mut self.tokens)? {
             self.turn_off(Unwatched::Changed);
         }
@@ -476,12 +448,7 @@ impl Known {
 
     /// Copies of what was printed and written beside the outputs that the compiler made. Messages that might be different
     /// in another call are an error.
-    pub fn messages<R: Files + AllocGlobal>(
-        &mut self,
-        rt: &R,
-        line: &CommandLine,
-    ) -> Result<KeptMessages, HostError> {
-        self.refuse_own_files(rt, line)?;
+    pub fn messages<R: Files + AllocGlobal>(&mut self, rt: &R) -> Result<KeptMessages, HostError> {
         self.check_sources(rt)?;
         if self.shows_names() {
             return Err(HostError::Quotes);

@@ -104,7 +104,7 @@ impl Known {
         Ok(text)
     }
 
-    /// Takes the files that a text names. One of the kernel's is refused, and one that may be a precompiled header's.
+    /// Takes the files that a text names. One that may be a precompiled header's is refused.
     fn take_names<R: Files + AllocGlobal>(
         &mut self,
         rt: &R,
@@ -112,9 +112,6 @@ impl Known {
         text: &[u8],
     ) -> Result<(), HostError> {
         self.named = NamedFiles::of(rt, line.dir.as_bytes(), text)?;
-        if self.named.have_kernels() {
-            return Err(HostError::TakesFiles);
-        }
         match has_precompiled(rt, line, &self.named)? {
             true => Err(HostError::Precompiled),
             false => Ok(()),

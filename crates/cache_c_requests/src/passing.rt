@@ -1,8 +1,7 @@
 //! What is passed through before the session is asked, since neither the compiler's words nor its text would determine what was made.
 //! docs/WRAPPER.md says what each variable and option does.
 
-use base_files::{OsBytes, join};
-use cache_disk::{is_of_process, reads_as_file};
+use base_files::OsBytes;
 use cache_host::{CommandLine, HostError};
 use cache_known_options::{
     PlacedWords, after_front, beside_of, for_preprocessor, is_among, odd_dependency_file,
@@ -13,8 +12,6 @@ use cache_statistics::TO_STANDARD_OUTPUT;
 use cmdlines_tables::CCompilerKind;
 use sccache_recorded_builds::options_in;
 use std::alloc::Global;
-use std::fs;
-use std::rt::Files;
 
 /// Variables under which a compiler reads or writes something else.
 const VARIABLES: [&str; 14] = [
@@ -104,13 +101,12 @@ fn reason_by_output(words: &[OsBytes]) -> Option<&'static str> {
     }
 }
 
-/// The variable that speaks against keeping in a call of a compiler of that kind, or the option, the word that isn't known, or the input.
-pub fn reason_against<R: Files + AllocGlobal>(
-    rt: &R,
+/// The variable that speaks against keeping in a call of a compiler of that kind, or the option, or the word that isn't known.
+pub fn reason_against(
+    alloc: Global,
     line: &CommandLine,
     kind: CCompilerKind,
 ) -> Result<Option<String>, HostError> {
-    let alloc = rt.alloc();
     for (name, value) in line.env.as_slice() {
         if is_variable(name.as_bytes()) && !value.as_bytes().is_empty() {
             let name = name.clone()?;
@@ -122,48 +118,10 @@ pub fn reason_against<R: Files + AllocGlobal>(
     }
     let options = options_in(alloc, line.words.as_slice(), &[])?;
     let option = options.iter().find(|option| !is_seen_to(option.as_bytes()));
-    if let Some(option) = option {
-        return Ok(Some(String::from_str(alloc, option)?));
+    match option {
+        Some(option) => Ok(Some(String::from_str(alloc, option)?)),
+        None => unknown_in(alloc, line, kind),
     }
-    match unknown_in(alloc, line, kind)? {
-        Some(word) => Ok(Some(word)),
-        None => reason_by_input(rt, line),
-    }
-}
-
-/// Whether a path is that of what can be read again and again, or nothing is there: not of a pipe, nor of a file of which each process has another.
-fn is_plain_input<R: Files + AllocGlobal>(
-    rt: &R,
-    line: &CommandLine,
-    word: &OsBytes,
-) -> Result<bool, HostError> {
-    let path = join(rt.alloc(), line.dir.as_bytes(), word.as_bytes())?;
-    if is_of_process(path.as_bytes()) {
-        return Ok(false);
-    }
-    let Ok(place) = str::from_utf8(path.as_bytes()) else {
-        return Ok(true);
-    };
-    match fs::metadata(rt, place) {
-        Ok(found) => Ok(reads_as_file(&found)),
-        Err(_) => Ok(true),
-    }
-}
-
-/// Why nothing can be kept of where an object is asked for that is made of these inputs: one of them is read once alone.
-fn reason_by_input<R: Files + AllocGlobal>(
-    rt: &R,
-    line: &CommandLine,
-) -> Result<Option<String>, HostError> {
-    if !may_ask_for_object(line.words.as_slice()) {
-        return Ok(None);
-    }
-    for placed in PlacedWords::of(line.words.as_slice()) {
-        if placed.is_input() && !is_plain_input(rt, line, placed.word)? {
-            return Ok(Some(String::from_str(rt.alloc(), "input is no plain file")?));
-        }
-    }
-    Ok(None)
 }
 
 /// Whether an object may be asked for, by these words or those in a response file.

@@ -2,11 +2,9 @@
 #![tactic(auto)]
 
 mod found;
-mod kernels;
 mod rights;
 mod whole;
 
 pub use found::{Found, State, folder_of, found_at, is_before, is_nothing, time_of};
-pub use kernels::{KernelDevices, is_of_process, reads_as_file};
 pub use rights::{give_rights, make_folders};
 pub use whole::{read_all, read_of_size, read_whole};

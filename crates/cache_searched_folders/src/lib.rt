@@ -4,7 +4,6 @@
 mod asking;
 mod entered;
 mod noted;
-mod own_files;
 mod places;
 mod search_list;
 mod shown;
@@ -13,7 +12,6 @@ mod watching;
 
 pub use asking::said_of;
 pub use entered::EnteredNames;
-pub use own_files::ask_for_own_files;
 pub use places::Places;
 pub use search_list::SearchList;
 pub use texts::{AskingSources, Source, TextFiles};

@@ -4,9 +4,9 @@ use crate::headers::look_up_shared;
 use crate::tokens::{Tokens, is_settled, token_of};
 use base_files::{FileTime, Files as CallFiles, Metadata, OsBytes, join};
 use base_snapshots::{LoadedFile, SnapshotFiles};
-use cache_disk::{is_of_process, read_of_size, reads_as_file, time_of};
+use cache_disk::{read_of_size, time_of};
 use cache_host::{CommandLine, HostError, into_text};
-use cache_written_lines::{Lying, NamedFile, NamedFiles, has_any};
+use cache_written_lines::{Lying, NamedFile, NamedFiles, has_any, reads_as_file};
 use memchr::memmem;
 use std::alloc::Global;
 use std::fs;
@@ -31,11 +31,8 @@ enum OnDisk {
     Unknown,
 }
 
-/// What the disk says of the file of that path, or what it has there in its place. A file of the kernel's is never read.
+/// What the disk says of the file of that path, or what it has there in its place.
 fn file_at<R: Files>(rt: &R, path: &str) -> Result<fs::Metadata, OnDisk> {
-    if is_of_process(path.as_bytes()) {
-        return Err(OnDisk::Unknown);
-    }
     match fs::metadata(rt, path) {
         Ok(found) if reads_as_file(&found) => Ok(found),
         Ok(_) => Err(OnDisk::NoFile),
@@ -298,7 +295,7 @@ fn load_named_file<R: Files + AllocGlobal>(
         Lying::File(found, Some(contents)) => {
             load_regular(rt, line, path, found, contents, files, tokens)
         }
-        Lying::File(_, None) | Lying::Unknown | Lying::Kernels => Ok(false),
+        Lying::File(_, None) | Lying::Unknown => Ok(false),
         Lying::Nothing | Lying::Other if tokens.has_whole(path) => Ok(true),
         Lying::Nothing | Lying::Other => take(path.clone()?, OnDisk::NoFile, files),
     }

@@ -10,6 +10,6 @@ mod written;
 
 pub use asked::{Asked, has_any};
 pub use lines::{digest_asked, digest_of_contents};
-pub use named::{Lying, NamedFile, NamedFiles};
+pub use named::{Lying, NamedFile, NamedFiles, reads_as_file};
 pub use plain_names::with_plain_names;
 pub use sources::{Source, Sources};

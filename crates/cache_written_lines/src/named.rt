@@ -1,14 +1,24 @@
 //! The files that a text is made of, as its markers name them: what lay under their paths once the text had been printed.
 
 use base_files::{OsBytes, join};
-use cache_disk::{KernelDevices, State, is_nothing, is_of_process, read_of_size, reads_as_file};
+use cache_disk::{State, is_nothing, read_of_size};
 use cache_source_directives::renumbers;
 use ckeys_marker_walk::{Mark, Markers, unescaped};
 use std::alloc::{AllocError, Global};
 use std::collections::HashSet;
 use std::fs;
 use std::fs::Metadata;
+use std::os::unix::fs::{FileTypeExt, MetadataExt};
 use std::rt::Files;
+
+/// The number of the device `/dev/null`.
+const NULL_DEVICE: u64 = 0x103;
+
+/// Whether it reads as a file: it is a regular one, or the device that is always empty, which build systems have compiled to find out which
+/// options a compiler knows.
+pub fn reads_as_file(found: &Metadata) -> bool {
+    found.is_file() || (found.file_type().is_char_device() && found.rdev() == NULL_DEVICE)
+}
 
 /// What lay under a path.
 #[derive(Drop)]
@@ -19,8 +29,6 @@ pub enum Lying {
     File(Metadata, Option<OsBytes>),
     /// A folder, or what is neither.
     Other,
-    /// A file of the kernel's, or one of which each process has another. It isn't read.
-    Kernels,
     /// That can't be determined.
     Unknown,
 }
@@ -53,15 +61,11 @@ fn is_file_name(name: &[u8]) -> bool {
 }
 
 /// What lies under a path, of which nothing is read.
-fn lying_at<R: Files>(rt: &R, path: &OsBytes, kernels: KernelDevices) -> Lying {
-    if is_of_process(path.as_bytes()) {
-        return Lying::Kernels;
-    }
+fn lying_at<R: Files>(rt: &R, path: &OsBytes) -> Lying {
     let Ok(place) = str::from_utf8(path.as_bytes()) else {
         return Lying::Unknown;
     };
     match fs::metadata(rt, place) {
-        Ok(found) if kernels.have(&found) => Lying::Kernels,
         Ok(found) if reads_as_file(&found) => Lying::File(found, None),
         Ok(_) => Lying::Other,
         Err(error) if is_nothing(&error) => Lying::Nothing,
@@ -85,11 +89,10 @@ impl NamedFile {
         rt: &R,
         dir: &[u8],
         name: OsBytes,
-        kernels: KernelDevices,
     ) -> Result<NamedFile, AllocError> {
         let written = unescaped(rt.alloc(), name.as_bytes())?.into_owned(rt.alloc())?;
         let path = join(rt.alloc(), dir, written.as_slice())?;
-        let lying = lying_at(rt, &path, kernels);
+        let lying = lying_at(rt, &path);
         Ok(NamedFile::new(name, path, lying))
     }
 
@@ -118,8 +121,8 @@ impl NamedFile {
     }
 
     /// Whether the same lies there now, in the same state.
-    fn is_unchanged<R: Files>(&self, rt: &R, kernels: KernelDevices) -> bool {
-        match (&self.lying, lying_at(rt, &self.path, kernels)) {
+    fn is_unchanged<R: Files>(&self, rt: &R) -> bool {
+        match (&self.lying, lying_at(rt, &self.path)) {
             (Lying::File(before, _), Lying::File(now, _)) => State::of(before) == State::of(&now),
             (Lying::Nothing, Lying::Nothing) | (Lying::Other, Lying::Other) => true,
             (_, _) => false,
@@ -146,7 +149,6 @@ impl NamedFiles {
     ) -> Result<NamedFiles, AllocError> {
         let mut named = NamedFiles::new(rt.alloc());
         let mut seen: HashSet<&[u8]> = HashSet::new(rt.alloc());
-        let kernels = KernelDevices::of(rt);
         for mark in Markers::new(text) {
             let Mark::Named(name) = mark else {
                 named.are_all = false;
@@ -154,7 +156,7 @@ impl NamedFiles {
             };
             if is_file_name(name) && seen.insert(name)? {
                 let name = OsBytes::from_slice(rt.alloc(), name)?;
-                named.files.push(NamedFile::of(rt, dir, name, kernels)?)?;
+                named.files.push(NamedFile::of(rt, dir, name)?)?;
             }
         }
         Ok(named)
@@ -167,7 +169,7 @@ impl NamedFiles {
         contents: OsBytes,
     ) -> Result<NamedFiles, AllocError> {
         let mut named = NamedFiles::new(rt.alloc());
-        let lying = match lying_at(rt, &path, KernelDevices::of(rt)) {
+        let lying = match lying_at(rt, &path) {
             Lying::File(found, _) => Lying::File(found, Some(contents)),
             other => other,
         };
@@ -204,14 +206,6 @@ impl NamedFiles {
 
     /// Whether the same is at each path now, in the same state. What couldn't be determined counts as changed.
     pub fn are_unchanged<R: Files>(&self, rt: &R) -> bool {
-        let kernels = KernelDevices::of(rt);
-        self.files.iter().all(|file| file.is_unchanged(rt, kernels))
-    }
-
-    /// Whether one of them is the kernel's, or one of which each process has another.
-    pub fn have_kernels(&self) -> bool {
-        self.files
-            .iter()
-            .any(|file| matches!(file.lying, Lying::Kernels))
+        self.files.iter().all(|file| file.is_unchanged(rt))
     }
 }

@@ -98,7 +98,7 @@ impl<'a> Sources<'a> {
                     sources.files.insert(name, source)?;
                 }
                 Lying::Nothing => {}
-                Lying::Unknown | Lying::Kernels => sources.are_known = false,
+                Lying::Unknown => sources.are_known = false,
                 Lying::File(_, None) | Lying::Other => return Err(HostError::Unreadable),
             }
         }

@@ -37,7 +37,7 @@ struct ReasonAgainst;
 impl Question for ReasonAgainst {
     fn answer(&self, rt: &HostRuntime, row: &Row<'_>) -> Result<String, Fail> {
         let line = line_of(rt, "/d", row.first)?;
-        let reason = reason_against(rt, &line, CCompilerKind::Gcc);
+        let reason = reason_against(rt.alloc(), &line, CCompilerKind::Gcc);
         drop(line);
         match reason {
             Ok(Some(reason)) => Ok(reason),
