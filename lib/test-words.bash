@@ -129,19 +129,6 @@ CC -c foo.c -o nowhere/foo.o
 CC -c foo.c -o /dev/null
 CC -nothing-of-the-kind -c foo.c
 CC -std=nothing -c foo.c
-CC -c foo.c -o foo.o
-printf -- '-DX=1\0 -UX -DX=2\n' >r; CC @r -c foo.c
-printf -- '-DX=1\n-DX=2\0' >r; CC @r -c foo.c
-printf -- '-c foo.c "" -o foo.o\n' >r; CC @r
-printf -- "-c foo.c -o foo.o '" >r; CC @r
-printf -- '-c\vfoo.c\v-o\vfoo.o\n' >r; CC @r
-printf -- '-c foo.c -o foo.o\f' >r; CC @r
-printf -- '-c foo.c -o foo.o -DX=3\\' >r; CC @r
-printf '\357\273\277-DX=5\n' >r; CC @r -c foo.c
-printf '\377\376-\0D\0X\0=\0005\0' >r; CC @r -c foo.c
-printf '@deep -c foo.c' >r; printf -- '-DX=1\0' >deep; CC @r
-printf -- '-Wmissing-prototypes -fdiagnostics-color=always\n' >r; CC @r -c foo.c
-printf -- '-Wmissing-prototypes -fdiagnostics-color=never\n' >r; CC -fdiagnostics-color=always @r -c foo.c
 END
     while read -r line; do kept_case "$cc" "$line"; done <<'END'
 CC -c foo.c
@@ -171,8 +158,6 @@ CC -Wp,-MD,x.d -Wp,-MT,d/x.o -c foo.c -o x.o
 CC -MD -Wp,-MQ,d/x.o -c foo.c -o links/x.o
 CC -O2 -Wp,-U_FORTIFY_SOURCE,-D_FORTIFY_SOURCE=3,-DX=4 -MD -c foo.c
 CC -O2 -march=native -mtune=native -c foo.c
-printf '%s\n' '-O2 -DX="1"' -Wmissing-prototypes >r; CC @r -MD -c foo.c
-printf '%s\t' "'-I.'" -DX=\\1 @deep >r; printf -- '-c\r\nfoo.c' >deep; CC -fdiagnostics-color=always @r
 END
     cd "$work" || return
 }

@@ -10,8 +10,7 @@ use cache_dir::{Kind, make_room};
 use cache_host::{CommandLine, Host, HostError, into_text};
 use cache_remote_storage::{Shared, share};
 use cache_source_files::{
-    Audit, OldFile, are_words_unchanged, lock_paths, print_again, write_dependencies,
-    write_outputs, write_side_files,
+    Audit, OldFile, lock_paths, print_again, write_dependencies, write_outputs, write_side_files,
 };
 use cache_statistics::CallFacts;
 use ckeys_include_records::PreprocessorCacheEntry;
@@ -222,9 +221,6 @@ pub(crate) fn keep_or_give<P: Print + Files<File = File> + AllocGlobal, I: Read>
     let list = list_to_watch(rt, line, host, answered, key, given.how, known);
     let is_kept = given.how == How::Fresh && matches!(audit, Audit::None);
     if is_kept {
-        if !are_words_unchanged(rt, line)? {
-            return Err(HostError::Changed);
-        }
         keep(rt, line, key, given.outputs, known.messages(rt)?)?;
     } else if given.how != How::Fresh {
         give_kept(rt, line, key, given, known)?;

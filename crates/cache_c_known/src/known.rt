@@ -356,7 +356,7 @@ impl Known {
         words: &[OsBytes],
     ) -> Result<Listed<OsBytes>, HostError> {
         let mut own = Listed::new(alloc);
-        for word in line.callers_words() {
+        for word in line.words.as_slice() {
             own.push(word.clone()?)?;
         }
         let color = self.kind.color_word().unwrap_or("");

@@ -36,10 +36,8 @@ pub struct CommandLine {
     pub list: String,
     pub executable: String,
     pub dir: OsBytes,
-    /// The words after the executable, with those of response files in the place of the words that name them.
+    /// The words after the executable.
     pub words: Listed<OsBytes>,
-    /// The words as the caller gave them, where response files among them were opened.
-    pub unopened: Option<Listed<OsBytes>>,
     /// Its variables. `PWD` is there only where it names the folder.
     pub env: Listed<(OsBytes, OsBytes)>,
     /// How far local clocks are from UTC now, as the rule of a zone.
@@ -145,19 +143,10 @@ impl CommandLine {
             executable,
             dir,
             words,
-            unopened: None,
             env,
             zone,
             settings: Settings::new(alloc),
         })
-    }
-
-    /// The words as the caller gave them: response files are among them by their names.
-    pub fn callers_words(&self) -> &[OsBytes] {
-        match &self.unopened {
-            Some(words) => words.as_slice(),
-            None => self.words.as_slice(),
-        }
     }
 
     /// Its variables.

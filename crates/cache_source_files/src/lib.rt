@@ -26,5 +26,5 @@ pub use outputs::{
     write_side_files,
 };
 pub use precompiled::has_precompiled;
-pub use response_words::{are_words_unchanged, opened_words};
+pub use response_words::opened_words;
 pub use tokens::{Tokens, token_of};

@@ -20,13 +20,13 @@ use counting::note;
 use deciding::decide;
 use gulmaat_options::{Caller, do_options, print_help};
 use gulmaat_page::{PageError, show_builds};
+use std::env;
 use std::fmt::Display;
 use std::fs::File;
 use std::io::Read;
 use std::process::ExitCode;
 use std::rt::{Clock, Env, Files};
 use std::time::SystemTime;
-use std::{env, mem};
 
 /// The status at which the outputs are there.
 const DONE: u8 = 11;
@@ -163,8 +163,7 @@ fn set_line<R: Eprint + Files + AllocGlobal>(rt: &R, line: &mut CommandLine) -> 
     }
 }
 
-/// Has the words of response files take the place of the words that name them, which stay beside them for the compile. rustc reads such files in
-/// another way: its words stay.
+/// Has the words of response files take the place of the words that name them. rustc reads such files in another way: its words stay.
 fn open_words<R: Files + AllocGlobal>(rt: &R, line: &mut CommandLine) -> Result<(), HostError> {
     let words = line.words.as_slice();
     let names_files = words.iter().any(|word| word.as_bytes().starts_with(b"@"));
@@ -172,7 +171,7 @@ fn open_words<R: Files + AllocGlobal>(rt: &R, line: &mut CommandLine) -> Result<
         return Ok(());
     }
     if let Some(opened) = opened_words(rt, &line.dir, words)? {
-        line.unopened = Some(mem::replace(&mut line.words, opened));
+        line.words = opened;
     }
     Ok(())
 }
