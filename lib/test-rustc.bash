@@ -131,39 +131,6 @@ rustc_changes() {
     changed_rustc "a native library by a word" 0 1 $json --crate-name quiet --crate-type lib --out-dir out --emit=link quiet.rs -L native=native -l static=number
 }
 
-# Makes a rustc at that path that has a program of awk change the dependency file of a crate `it`, once it has compiled it.
-rustc_that_writes() {
-    stand_in "$1" <<END
-$rustc "\$@" || exit
-case "\$*" in *--emit=dep-info,metadata,link*) ;; *) exit 0 ;; esac
-for folder in out there; do
-    [ ! -f \$folder/it.d ] || { awk '$2' \$folder/it.d >written && cat written >\$folder/it.d; }
-done
-END
-}
-
-# Rules of a dependency file in another order than here, as other versions of rustc write them, and such as aren't the session's.
-rustc_rules() {
-    local rustc=$rustc first json="--error-format=json --json=diagnostic-rendered-ansi,artifacts"
-    local it="$json --crate-name it --edition=2021 it.rs --crate-type lib --emit=dep-info,metadata,link"
-    mkdir -p other less there
-    rustc_that_writes less/rustc '/: / && !n++ { getline; next } { print }'
-    rustc_that_writes other/rustc '/: / && !done { rule[++n] = $0; getline; next } !done { done = 1; for (; n > 0; n--) print rule[n] "\n" } { print }'
-    "$rustc" $it --out-dir out 2>/dev/null
-    first=$(head -n 1 out/it.d)
-    rustc=$PWD/other/rustc
-    kept_by_rustc "rules in another order" $it --out-dir out
-    is "rustc: rules in another order: they were" [ "$(head -n 1 out/it.d)" != "$first" ]
-    mark
-    "$host" "$rustc" $it --out-dir there 2>/dev/null
-    is "rustc: rules in another order, into another folder" since 1 0
-    is "rustc: rules in another order, into another folder: the file" cmp -s there/it.d <(sed 's:^out/:there/:' out/it.d)
-    rm -r there
-    rustc=$PWD/less/rustc
-    changed_rustc "a rule less" 0 0 $it --out-dir out
-    changed_rustc "a rule less, again" 0 0 $it --out-dir out
-}
-
 # Where outputs go: another folder isn't a miss, and messages and the text on dependencies name it.
 rustc_places() {
     local json="--error-format=json --json=diagnostic-rendered-ansi,artifacts" folder
@@ -275,7 +242,6 @@ END
     sleep 0.1
     rustc_words
     rustc_changes
-    rustc_rules
     rustc_places
     rustc_why
     rustc_proxies

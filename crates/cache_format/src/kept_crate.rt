@@ -17,13 +17,11 @@ pub struct KeptCrate {
     pub width: OsBytes,
     /// What was printed on standard error.
     pub errors: OsBytes,
-    /// In which order rustc wrote the rules of the dependency file, as their numbers in the session's; empty where none was asked for.
-    pub order: OsBytes,
     /// The outputs that were made, each by its name and its contents.
     pub outputs: Listed<(OsBytes, OsBytes)>,
 }
 
-/// The digest of the key, the folder, the width, the messages, the order of rules and the outputs.
+/// The digest of the key, the folder, the width, the messages and the outputs.
 impl Field for KeptCrate {
     ghost reads = { crate_at };
 
@@ -39,14 +37,12 @@ impl Field for KeptCrate {
         let (folder, rest) = OsBytes::read(alloc, rest)?;
         let (width, rest) = OsBytes::read(alloc, rest)?;
         let (errors, rest) = OsBytes::read(alloc, rest)?;
-        let (order, rest) = OsBytes::read(alloc, rest)?;
         let (outputs, rest) = Listed::<(OsBytes, OsBytes)>::read(alloc, rest)?;
         let kept = KeptCrate {
             key,
             folder,
             width,
             errors,
-            order,
             outputs,
         };
         Ok((kept, rest))
@@ -57,7 +53,6 @@ impl Field for KeptCrate {
         self.folder.put(out)?;
         self.width.put(out)?;
         self.errors.put(out)?;
-        self.order.put(out)?;
         self.outputs.put(out)?;
         Ok(())
     }

@@ -40,9 +40,9 @@ impl Sealed for KeptParts {
 }
 
 impl Sealed for KeptCrate {
-    const VERSION: u8 = 2;
+    const VERSION: u8 = 1;
 
-    ghost VERSION = { 2 };
+    ghost VERSION = { 1 };
 }
 
 /// The digest of these bytes.

@@ -3,7 +3,6 @@
 ghost use Rattle.std.specs.Prelude.{◌≡◌, ◌≤◌};
 
 use crate::finishing::{give, have_places, keep_made, paths_of};
-use crate::rules::in_order;
 use base_blake2::Blake2b256;
 use base_files::{Listed, OsBytes};
 use cache_host::{Additions, CommandLine, Host, HostError, into_text};
@@ -214,15 +213,8 @@ fn answer_by(
         Err(ConfigError::BadFolder(_)) => return Err(HostError::Folder),
     };
     let pair = match known.found.take() {
-        Some(
-            FoundCrate {
-                pair,
-                errors,
-                order,
-            },
-        ) => {
+        Some(FoundCrate { pair, errors }) => {
             known.found_errors = Some(OsBytes::from_vec(errors));
-            known.found_order = order;
             Some(pair)
         }
         None => None,
@@ -277,21 +269,6 @@ fn find_out<P: Print + Files<File = File> + AllocGlobal, I: Read>(
     }
 }
 
-/// The session's dependency file, its rules in the order that was kept with the outputs.
-fn dep_info_as_kept(
-    alloc: Global,
-    dep_info: Option<&OsBytes>,
-    known: &KnownCrate,
-) -> Result<Option<OsBytes>, HostError> {
-    let Some(text) = dep_info else {
-        return Ok(None);
-    };
-    match in_order(alloc, text.as_bytes(), known.found_order.as_bytes())? {
-        Some(text) => Ok(Some(text)),
-        None => Err(HostError::Unreadable),
-    }
-}
-
 /// Gives outputs that were kept. None where they are to be compiled too, and are a miss from now on.
 fn act_on_hit<P: Files<File = File> + AllocGlobal>(
     rt: &P,
@@ -306,8 +283,6 @@ fn act_on_hit<P: Files<File = File> + AllocGlobal>(
     if !have_places(rt, paths.as_slice(), known.dep_info.as_ref())? {
         return Ok(Some(pass(rt.alloc(), "output is no plain file", None)?));
     }
-    let dep_info = dep_info_as_kept(rt.alloc(), dep_info, known)?;
-    let dep_info = dep_info.as_ref();
     if known.is_to_audit(rt.alloc(), line, key, how, outputs, dep_info)? {
         return Ok(None);
     }

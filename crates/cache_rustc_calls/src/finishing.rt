@@ -1,11 +1,10 @@
 //! The end of a call of rustc: what was made is kept, and what was kept is given, with what was printed beside it.
 
-use crate::rules::order_of;
 use base_files::{Listed, OsBytes, join};
 use cache_dir::{Kind, make_room};
 use cache_host::{CommandLine, HostError, text_in};
 use cache_rustc_known::KnownCrate;
-use cache_rustc_requests::{Beside, has_json, keep};
+use cache_rustc_requests::{has_json, keep};
 use cache_source_files::lock_paths;
 use std::alloc::Global;
 use std::fs;
@@ -119,29 +118,22 @@ pub fn give<R: Files<File = File> + AllocGlobal>(
     Ok(())
 }
 
-/// Whether what was made may be kept: its sources are as they were, and messages are such as another call can have.
-fn may_keep<R: Files>(rt: &R, line: &CommandLine, known: &KnownCrate) -> Result<bool, HostError> {
-    let has_messages = known.is_talking || (!known.errors.as_bytes().is_empty() && !has_json(line));
-    Ok(!has_messages && known.are_unchanged(rt)?)
-}
-
-/// In which order rustc wrote the rules of the dependency file that the session gives, where one is asked for. An error where it wrote another
-/// file.
-fn order_made<R: Files + AllocGlobal>(
+/// Whether what was made may be kept: its sources are as they were, messages are such as another call can have, and the text on dependencies
+/// is the one that the session gives.
+fn may_keep<R: Files + AllocGlobal>(
     rt: &R,
+    line: &CommandLine,
     dep_info: Option<&OsBytes>,
     known: &KnownCrate,
-) -> Result<OsBytes, HostError> {
-    let alloc = rt.alloc();
-    let Some(text) = dep_info else {
-        return Ok(OsBytes::empty(alloc));
-    };
-    let Some(written) = known.written_dep_info(rt)? else {
-        return Err(HostError::Changed);
-    };
-    match order_of(alloc, text.as_bytes(), written.as_slice())? {
-        Some(order) => Ok(order),
-        None => Err(HostError::Changed),
+) -> Result<bool, HostError> {
+    let has_messages = known.is_talking || (!known.errors.as_bytes().is_empty() && !has_json(line));
+    if has_messages || !known.are_unchanged(rt)? {
+        return Ok(false);
+    }
+    match (dep_info, known.written_dep_info(rt)?) {
+        (None, _) => Ok(true),
+        (Some(kept), Some(written)) => Ok(kept.as_bytes() == written.as_slice()),
+        (Some(_), None) => Ok(false),
     }
 }
 
@@ -154,15 +146,10 @@ pub fn keep_made<R: Files<File = File> + AllocGlobal>(
     dep_info: Option<&OsBytes>,
     known: &KnownCrate,
 ) -> Result<(), HostError> {
-    if !may_keep(rt, line, known)? {
+    if !may_keep(rt, line, dep_info, known)? {
         return Err(HostError::Changed);
     }
-    let order = order_made(rt, dep_info, known)?;
-    let beside = Beside {
-        errors: &known.errors,
-        order: &order,
-    };
-    keep(rt, line, key, outputs, beside, known.wishes())?;
+    keep(rt, line, key, outputs, &known.errors, known.wishes())?;
     let names = [text_in(&key.digest)?];
     Ok(make_room(&rt, &line.folder, names.as_slice())?)
 }

@@ -3,6 +3,5 @@
 
 mod deciding;
 mod finishing;
-mod rules;
 
 pub use deciding::{RustcEnd, RustcWhat, decide_on_rustc};

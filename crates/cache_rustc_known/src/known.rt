@@ -28,8 +28,6 @@ pub struct KnownCrate {
     pub looked_up: Option<OsBytes>,
     /// What was printed beside the kept outputs that the session had.
     pub found_errors: Option<OsBytes>,
-    /// And in which order the rules of its dependency file were.
-    pub found_order: OsBytes,
     /// The hit in whose place rustc runs.
     pub audited: Option<AuditedCrate>,
     /// What the compile printed on its standard error.
@@ -96,7 +94,6 @@ impl KnownCrate {
             found: None,
             looked_up: None,
             found_errors: None,
-            found_order: OsBytes::empty(alloc),
             audited: None,
             errors: OsBytes::empty(alloc),
             is_talking: false,

@@ -21,6 +21,6 @@ pub use asking::{printed_for, said_for, toolchain_word};
 pub use noted_parts::{PartRows, name_of_parts, note_parts};
 pub use parts::{archives_in, has_loaded};
 pub use passing::{has_json, reason_against};
-pub use results::{Beside, FoundCrate, Wishes, found, keep};
+pub use results::{FoundCrate, Wishes, found, keep};
 pub use rustc::{is_named_rustc, rustc_at};
 pub use why::why_of_rustc;

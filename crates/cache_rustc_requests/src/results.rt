@@ -14,19 +14,11 @@ use std::rt::Files;
 use wrap_base::store_key::{Pairs, Shape, StoreKey};
 use wrap_base::{Output, pairs_of};
 
-/// What a disk keeps under a key: outputs, messages as they are for this call, and the order of rules in a dependency file.
+/// What a disk keeps under a key: outputs, and messages as they are for this call.
 #[derive(Drop)]
 pub struct FoundCrate {
     pub pair: (StoreKey, Pairs),
     pub errors: Vec<u8>,
-    pub order: OsBytes,
-}
-
-/// What is kept beside outputs: what was printed on standard error, and the order of rules in the dependency file.
-#[derive(Clone, Copy)]
-pub struct Beside<'a> {
-    pub errors: &'a OsBytes,
-    pub order: &'a OsBytes,
 }
 
 /// What a call wants of what is kept: the folder of its outputs, and how wide its terminal is.
@@ -107,16 +99,11 @@ fn errors_of(
 /// The outputs under their key, with these messages.
 fn found_with(
     key: &StoreKey,
-    kept: KeptCrate,
+    outputs: Pairs,
     errors: Vec<u8>,
 ) -> Result<Option<FoundCrate>, HostError> {
-    let KeptCrate { order, outputs, .. } = kept;
     let pair = (key.clone()?, outputs);
-    Ok(Some(FoundCrate {
-        pair,
-        errors,
-        order,
-    }))
+    Ok(Some(FoundCrate { pair, errors }))
 }
 
 /// What is kept under a key, where its messages can be those of this call. Nothing where all is to be kept anew.
@@ -133,7 +120,7 @@ pub fn found<R: Files + AllocGlobal>(
         return Ok(None);
     };
     match errors_of(rt.alloc(), &kept, key, wishes) {
-        Ok(Some(errors)) => found_with(key, kept, errors),
+        Ok(Some(errors)) => found_with(key, kept.outputs, errors),
         Ok(None) => Ok(None),
         Err(stop) => Err(stop),
     }
@@ -144,10 +131,10 @@ fn kept_crate(
     alloc: Global,
     key: &StoreKey,
     outputs: &[Output],
-    beside: Beside<'_>,
+    errors: &OsBytes,
     wishes: Wishes<'_>,
 ) -> Result<KeptCrate, HostError> {
-    let width = match are_notices(beside.errors.as_bytes()) {
+    let width = match are_notices(errors.as_bytes()) {
         true => &[],
         false => wishes.width,
     };
@@ -155,8 +142,7 @@ fn kept_crate(
         key: OsBytes::from_vec(digest_of_key(alloc, key)?.into_bytes()),
         folder: OsBytes::from_slice(alloc, wishes.folder)?,
         width: OsBytes::from_slice(alloc, width)?,
-        errors: beside.errors.clone()?,
-        order: beside.order.clone()?,
+        errors: errors.clone()?,
         outputs: pairs_of(alloc, outputs)?,
     })
 }
@@ -166,23 +152,23 @@ fn sealed(
     alloc: Global,
     key: &StoreKey,
     outputs: &[Output],
-    beside: Beside<'_>,
+    errors: &OsBytes,
     wishes: Wishes<'_>,
 ) -> Result<Vec<u8>, HostError> {
-    let kept = kept_crate(alloc, key, outputs, beside, wishes)?;
+    let kept = kept_crate(alloc, key, outputs, errors, wishes)?;
     Ok(seal::<Blake2b256, KeptCrate>(alloc, &kept)?)
 }
 
-/// Keeps outputs under their key with what is kept beside them, where they aren't too large for the limit.
+/// Keeps outputs under their key with what was printed beside them, where they aren't too large for the limit.
 pub fn keep<R: Files + AllocGlobal>(
     rt: &R,
     line: &CommandLine,
     key: &StoreKey,
     outputs: &[Output],
-    beside: Beside<'_>,
+    errors: &OsBytes,
     wishes: Wishes<'_>,
 ) -> Result<(), HostError> {
-    let bytes = sealed(rt.alloc(), key, outputs, beside, wishes)?;
+    let bytes = sealed(rt.alloc(), key, outputs, errors, wishes)?;
     let folder = &line.folder;
     if !takes(folder.limit, bytes.len() as u64) {
         return Ok(());
