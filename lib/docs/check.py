@@ -16,7 +16,7 @@ from faults import PATH as FORMATS, faults  # noqa: E402
 from options import differences, untried  # noqa: E402
 from pictures import PICTURES, floors  # noqa: E402
 from sources import Sources, read  # noqa: E402
-from worked import PATH as ROWS, faults as lost_rows  # noqa: E402
+from worked import PATH as ROWS, checks as worked_rows  # noqa: E402
 
 TOP = os.path.dirname(os.path.dirname(os.path.dirname(os.path.realpath(__file__))))
 MANUAL = "share/gulmaat.1"
@@ -301,9 +301,8 @@ class Check:
 
     def worked_rows(self):
         """Each worked row runs somewhere, and none has left the list in silence."""
-        for line, what in lost_rows(TOP, self.rows):
-            self.is_so(False, f"{ROWS}:{line}", what)
-        self.passed += len(self.rows.rows())
+        for line, is_right, what in worked_rows(TOP, self.rows):
+            self.is_so(is_right, f"{ROWS}:{line}", what)
 
     def pictures(self):
         """Each picture is as it would be drawn now, and names crates that are there."""

@@ -31,14 +31,13 @@ def lost(top, path, texts):
     return None
 
 
-def faults(top, document):
-    """Each row that runs nowhere, with the number of its line and what is gone; and whether there are as many as the document says."""
+def checks(top, document):
+    """Of each row with a column for where it runs, the number of its line, whether it runs, and what is gone; and whether there are as many as
+    the document says."""
     rows = [(number, cells) for number, head, cells in document.rows() if head[-1] == "where it runs"]
     for number, cells in rows:
         homes = homes_in(cells[-1]) if len(cells) == 2 else []
         gone = [it for it in (lost(top, *home) for home in homes) if it]
-        if gone or not homes:
-            yield number, f"the row '{cells[0]}' doesn't run: {', '.join(gone) or 'it names no file'}"
+        yield number, homes and not gone, f"the row '{cells[0]}' doesn't run: {', '.join(gone) or 'it names no file'}"
     said = re.search(r"There are (\d+) rows\.", document.text)
-    if not said or int(said[1]) != len(rows):
-        yield 1, f"there are {len(rows)} rows, and not as many as it says"
+    yield 1, said and int(said[1]) == len(rows), f"there are {len(rows)} rows, and not as many as it says"
